@@ -1,0 +1,4 @@
+.PHONY: demo test
+
+test:
+	bash .ci/run
