@@ -1,7 +1,7 @@
 //! Owned bytes, owned block numbers, and a blob of both.
 ghost use Rattle.std.specs.Prelude.{◌≡◌, IfOk};
 
-use std::alloc::{AllocError, Global};
+use std::alloc::AllocError;
 use std::marker::Model;
 
 /// Bytes that are owned. Seen as their list.
@@ -34,11 +34,11 @@ impl Bytes {
     }
 
     /// The same bytes once more; only want of memory can refuse it.
-    pub fn copy(&self, alloc: Global) -> Result<Bytes, AllocError>
+    pub fn copy(&self) -> Result<Bytes, AllocError>
         ensures { IfOk result (λ bytes. bytes ≡ self.now) }
     {
         Ok(Bytes {
-            list: self.list.to_vec(alloc)?,
+            list: self.list.to_vec(*self.list.allocator())?,
         })
     }
 }

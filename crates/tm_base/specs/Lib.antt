@@ -1,0 +1,5 @@
+pub mod IsName
+pub mod Paths
+pub mod PathLaws
+pub mod Moments
+pub mod Refusals

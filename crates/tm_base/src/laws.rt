@@ -1,0 +1,12 @@
+//! Laws of paths.
+ghost use Rattle.tm_base.specs.PathLaws.{PrefixIsFront, AncestorIsLess};
+
+/// A path is a prefix of another exactly where the other begins with its names.
+pub fn prefix_is_front()
+    ensures { PrefixIsFront }
+{}
+
+/// A path is less than each path beneath it.
+pub fn ancestor_is_less()
+    ensures { AncestorIsLess }
+{}

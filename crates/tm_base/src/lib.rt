@@ -1,0 +1,17 @@
+//! Names, paths, moments and refusals: the words that every other crate speaks in.
+#![tactic(auto)]
+
+mod laws;
+mod moment;
+mod name;
+mod path;
+mod refused;
+
+pub use laws::{ancestor_is_less, prefix_is_front};
+pub use moment::{BadDate, Moment, prints_back, reads_back};
+pub use name::{Name, NameError};
+pub use path::{Path, PathError};
+pub use refused::{Full, LineFault, Refused, Side};
+
+#[cfg(test)]
+mod tests;
