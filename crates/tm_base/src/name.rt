@@ -76,11 +76,12 @@ impl Name {
     {
         self.bytes.as_slice()
     }
+}
 
-    /// The same name once more; only want of memory can refuse it.
-    pub fn copy(&self) -> Result<Name, AllocError>
-        ensures { IfOk result (λ name. name ≡ self.now) }
-    {
+impl Clone for Name {
+    ghost is_clone = { λ name copy. copy ≡ name };
+
+    fn clone(&self) -> Result<Name, AllocError> {
         Ok(Name {
             bytes: self.bytes.to_vec(*self.bytes.allocator())?,
         })

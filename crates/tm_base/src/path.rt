@@ -102,16 +102,9 @@ impl Path {
     {
         let mut names = Vec::new(*self.names.allocator());
         for name in &self.names[..count] {
-            names.push(name.copy()?)?;
+            names.push(name.clone()?)?;
         }
         Ok(Path { names })
-    }
-
-    /// The same path once more; only want of memory can refuse it.
-    pub fn copy(&self) -> Result<Path, AllocError>
-        ensures { IfOk result (λ path. path ≡ self.now) }
-    {
-        self.first(self.names.len())
     }
 
     /// The path of the entry `name` in the folder here; [`PathError::TooDeep`] exactly at 64 names.
@@ -122,8 +115,8 @@ impl Path {
         if self.is_full() {
             return Err(PathError::TooDeep);
         }
-        let mut path = self.copy()?;
-        path.names.push(name.copy()?)?;
+        let mut path = self.clone()?;
+        path.names.push(name.clone()?)?;
         Ok(path)
     }
 
@@ -153,6 +146,14 @@ impl Path {
         ensures { result ≡ is_prefix self.now other.now }
     {
         other.names.starts_with(&self.names)
+    }
+}
+
+impl Clone for Path {
+    ghost is_clone = { λ path copy. copy ≡ path };
+
+    fn clone(&self) -> Result<Path, AllocError> {
+        self.first(self.names.len())
     }
 }
 

@@ -10,7 +10,7 @@ fn names_are_read(rt: HostRuntime) -> Result<(), Fail> {
     for good in [b"a".as_slice(), b"Zo\xC3\xAB K", b"...", b"a b%", &long] {
         let name = Name::read(alloc, good)?;
         assert!(rt; name.as_bytes() == good);
-        assert!(rt; name == name.copy()?);
+        assert!(rt; name == name.clone()?);
     }
     for bad in [
         b"".as_slice(),

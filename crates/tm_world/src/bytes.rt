@@ -1,5 +1,5 @@
 //! Owned bytes, owned block numbers, and a blob of both.
-ghost use Rattle.std.specs.Prelude.{◌≡◌, IfOk};
+ghost use Rattle.std.specs.Prelude.{◌≡◌};
 
 use std::alloc::AllocError;
 use std::marker::Model;
@@ -32,11 +32,12 @@ impl Bytes {
     {
         self.list.as_slice()
     }
+}
 
-    /// The same bytes once more; only want of memory can refuse it.
-    pub fn copy(&self) -> Result<Bytes, AllocError>
-        ensures { IfOk result (λ bytes. bytes ≡ self.now) }
-    {
+impl Clone for Bytes {
+    ghost is_clone = { λ bytes copy. copy ≡ bytes };
+
+    fn clone(&self) -> Result<Bytes, AllocError> {
         Ok(Bytes {
             list: self.list.to_vec(*self.list.allocator())?,
         })
