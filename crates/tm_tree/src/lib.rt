@@ -1,0 +1,19 @@
+//! Items, trees, listings and changes: what a volume is, what a snapshot holds, and what a line
+//! does to them (`docs/DEFINITIONS.md`).
+#![tactic(auto)]
+
+mod attrs;
+mod change;
+mod item;
+mod listing;
+mod node;
+mod record;
+mod rows;
+
+pub use attrs::{Attrs, Extras};
+pub use change::Change;
+pub use item::{Item, Labelled};
+pub use listing::{ListKind, ListRow, ListRows, Listing};
+pub use node::{Child, Entries, LeafRow, NodeBody, NodeId, NodeRow};
+pub use record::{ItemBody, ItemRow};
+pub use rows::{Mark, PathList, Row, RowList, Touch, Touches};
