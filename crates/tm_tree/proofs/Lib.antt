@@ -1,0 +1,4 @@
+pub mod Order
+pub mod AtPaths
+pub mod SameItems
+pub mod CopyProofs

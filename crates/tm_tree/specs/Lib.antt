@@ -1,1 +1,12 @@
 pub mod Extras
+pub mod Items
+pub mod Trees
+pub mod Walks
+pub mod Listings
+pub mod Views
+pub mod Copies
+pub mod Touches
+pub mod Contents
+pub mod Refusing
+pub mod Changes
+pub mod States

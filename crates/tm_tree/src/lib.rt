@@ -5,15 +5,19 @@
 mod attrs;
 mod change;
 mod item;
+mod laws;
 mod listing;
 mod node;
 mod record;
 mod rows;
+mod walk;
 
 pub use attrs::{Attrs, Extras};
 pub use change::Change;
 pub use item::{Item, Labelled};
+pub use laws::{copy_is_whole, copy_of_part, copy_over_same};
 pub use listing::{ListKind, ListRow, ListRows, Listing};
 pub use node::{Child, Entries, LeafRow, NodeBody, NodeId, NodeRow};
 pub use record::{ItemBody, ItemRow};
 pub use rows::{Mark, PathList, Row, RowList, Touch, Touches};
+pub use walk::Way;
