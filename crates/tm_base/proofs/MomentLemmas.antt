@@ -1,5 +1,5 @@
 -- A text of 17 bytes and the parts that stand in it.
-use Rattle.std.proofs.Common.{Bool, true, false, not, Result, Ok, Err, IsOk, IfOk, IfErr, MatchResult, rules, negsuc, inl, ◌+ℤ◌, ◌*ℤ◌, ◌≡◌, ℕ, ◌+◌, ◌*◌, ◌/◌, ◌%◌, ◌<◌, List, length, slice_index, ℤ, pos, ◌≤ℤ◌, unsigned_abs, arith, refl, sym, ap, ◌∙◌}
+use Rattle.std.proofs.Common.{Bool, true, false, not, Result, Ok, Err, IsOk, MatchResult, rules, negsuc, inl, ◌+ℤ◌, ◌*ℤ◌, ◌≡◌, ℕ, ◌+◌, ◌*◌, ◌/◌, ◌%◌, ◌<◌, List, length, slice_index, ℤ, pos, ◌≤ℤ◌, unsigned_abs, arith, refl, sym, ap, ◌∙◌}
 use Rattle.jiff_core.specs.declared.civil.datetime.DateTime.{DateTime}
 use Rattle.std.proofs.lemmas.Int.{by_lt_z}
 use Rattle.jiff_core.specs.declared.civil.date.Date.{Date}
@@ -111,8 +111,3 @@ ok_if (Err e) P U Q cases u = absurd (cases.0 u)
 pub from_not : (b : Bool) → false ≡ not b → b ≡ true
 from_not true h = refl
 from_not false h = h
-
--- what a read of a text that names a moment gives
-pub read_gives : {E : Type 0} (r : Result ℕ E) (text : List ℕ) (n : ℕ) → Names text n → IfOk r (Names text) → IfErr r (λ _. (k : ℕ) → Names text k → ⊥) → r ≡ Ok n
-read_gives (Ok m) text n names value bad = ap Ok (names_one text m n value names)
-read_gives (Err e) text n names value bad = absurd (bad n names)

@@ -2,4 +2,5 @@ pub mod IsName
 pub mod Paths
 pub mod PathLaws
 pub mod Moments
+pub mod Days
 pub mod Refusals

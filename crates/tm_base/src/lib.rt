@@ -7,8 +7,8 @@ mod name;
 mod path;
 mod refused;
 
-pub use laws::{ancestor_is_less, prefix_is_front};
-pub use moment::{BadDate, Moment, prints_back, reads_back};
+pub use laws::{ancestor_is_less, moment_texts_differ, prefix_is_front};
+pub use moment::{BadDate, Moment};
 pub use name::{Name, NameError};
 pub use path::{Path, PathError};
 pub use refused::{Full, LineFault, Refused, Side};

@@ -1,5 +1,6 @@
 //! Moments: whole seconds of the years 1970 to 9999, in UTC.
 ghost use Rattle.std.specs.Prelude.{◌≡◌, ◌≢◌, ℕ, ◌+◌, ◌-◌, ◌*◌, ◌/◌, ◌%◌, ◌<◌, ◌≤◌, ◌↔◌, min, pos, ◌≤ℤ◌, IfOk, IfErr, IfSome, IfNone, MatchOption, OnErr, IsNone, IsTrue, Some, None, Ok, string_bytes, length, slice_index, unsigned_abs, IsAscii};
+ghost use Rattle.tm_base.specs.Days.{moment_text, last_moment};
 ghost use Rattle.tm_base.specs.Moments.{Names, date_text, text_of, IsWhole, HasParts, HasPartsOf, two};
 
 use jiff_core::civil::{Date, DateTime, Time};
@@ -136,29 +137,41 @@ fn civil_of(text: &[u8]) -> Option<DateTime>
     civil_at(year, month, day, hour, minute, second)
 }
 
+// The moment that a text names.
+fn named(text: &[u8]) -> Option<Moment>
+    ensures some { IfSome result (λ m. Names text.now m) }
+    ensures in_range { IfSome result (λ m. m ≤ last_moment) }
+    ensures none { IfNone result ((n : ℕ) → Names text.now n → ⊥) }
+{
+    if text.len() != 17 {
+        return None;
+    }
+    let Some(at) = civil_of(text) else {
+        return None;
+    };
+    if printed(at).as_slice() != text {
+        return None;
+    }
+    let seconds = at.to_second();
+    if seconds < 0 {
+        return None;
+    }
+    Some(Moment {
+        seconds: seconds as u64,
+    })
+}
+
 impl Moment {
     /// The moment that a text `YYYY-MM-DD-HHMMSS` names; [`BadDate`] exactly where it names none.
     /// It takes no memory.
     pub fn read(text: &[u8]) -> Result<Moment, BadDate>
-        ensures value { IfOk result (λ m. Names text.now m) }
-        ensures bad { IfErr result (λ _. (n : ℕ) → Names text.now n → ⊥) }
+        ensures value { IfOk result (λ m. text.now ≡ moment_text m) }
+        ensures bad { IfErr result (λ _. (n : ℕ) → n ≤ last_moment → text.now ≢ moment_text n) }
     {
-        if text.len() != 17 {
-            return Err(BadDate);
+        match named(text) {
+            Some(moment) => Ok(moment),
+            None => Err(BadDate),
         }
-        let Some(at) = civil_of(text) else {
-            return Err(BadDate);
-        };
-        if printed(at).as_slice() != text {
-            return Err(BadDate);
-        }
-        let seconds = at.to_second();
-        if seconds < 0 {
-            return Err(BadDate);
-        }
-        Ok(Moment {
-            seconds: seconds as u64,
-        })
     }
 
     /// The seconds since 1970-01-01T00:00:00. It takes no memory.
@@ -183,31 +196,13 @@ impl Moment {
 
     /// The text `YYYY-MM-DD-HHMMSS` that names the moment; only want of memory can refuse it.
     pub fn print(self, alloc: Global) -> Result<String, AllocError>
-        ensures { IfOk result (λ text. Names (string_bytes text) self) }
+        ensures text { IfOk result (λ text. string_bytes text ≡ moment_text self) }
+        ensures in_range { self ≤ last_moment }
     {
         let date = Date::from_days_since_min((self.seconds / 86_400) as u32 + 4_371_587);
         let time = Time::from_second((self.seconds % 86_400) as u32, 0);
         let bytes = printed(DateTime { date, time });
         let text = str::from_utf8(bytes.as_slice()).unwrap();
         String::from_str(alloc, text)
-    }
-}
-
-/// A moment reads back from its text.
-pub fn reads_back(moment: Moment, alloc: Global) -> Result<Result<Moment, BadDate>, AllocError>
-    ensures { IfOk result (λ back. back ≡ Ok moment) }
-{
-    let text = moment.print(alloc)?;
-    Ok(Moment::read(text.as_bytes()))
-}
-
-/// The text that names a moment is the text that it prints.
-pub fn prints_back(text: &[u8], alloc: Global) -> Result<Option<String>, AllocError>
-    ensures { IfOk result (λ back. MatchOption back ((n : ℕ) → Names text.now n → ⊥)
-        (λ again. string_bytes again ≡ text.now)) }
-{
-    match Moment::read(text) {
-        Ok(moment) => Ok(Some(moment.print(alloc)?)),
-        Err(_) => Ok(None),
     }
 }

@@ -1,46 +1,11 @@
-use Rattle.std.proofs.Common.{true≢false, not, refl, ℤ, ◌≤ℤ◌, unsigned_abs, FitsSigned, w64, ◌≡◌, length, pos, ap, arith, sym, ◌∙◌}
-use Rattle.std.proofs.lemmas.Bool.Decides.{Decides-eqb}
-use Rattle.std.proofs.lemmas.Slice.Eq.{slice_eq-Decides}
-use Rattle.std.proofs.lemmas.Int.{to_z-of_z, ints}
-use Rattle.jiff_core.proofs.SignedLemmas.{signed_arith}
-use Rattle.tm_base.proofs.MomentLemmas.{length-text_of, parts_of_text, same_text, same_seconds, abs_pos, from_not}
+use Rattle.std.proofs.Common.{subst, sym}
+use Rattle.tm_base.specs.Moments.{Names}
+use Rattle.tm_base.proofs.DayLemmas.{names_text, text_is}
 use Rattle.tm_base.proofs.moment.Moment.read.Goals as goal
 
-pub returns-then-text-ne17-clause-bad : goal.returns-then-text-ne17-clause-bad
-returns-then-text-ne17-clause-bad c =
-    λ n names. c.if-text-ne17.true (ap length names.written ∙ length-text_of names.at)
+pub returns-in-Some-clause-value : goal.returns-in-Some-clause-value
+returns-in-Some-clause-value c = text_is c.args.text.now c.in-Some.moment c.in-Some.ensures.in_range c.in-Some.ensures.some
 
-pub returns-in_default-clause-bad : goal.returns-in_default-clause-bad
-returns-in_default-clause-bad c =
-    λ n names. c.in_default.ensures.none names.at (parts_of_text names.at c.args.text.now names.whole names.written)
-
-pub returns-then-ne-clause-bad : goal.returns-then-ne-clause-bad
-returns-then-ne-clause-bad c =
-    λ n names.
-    let same = same_text c.in-Some.at names.at c.args.text.now c.in-Some.ensures.some (parts_of_text names.at c.args.text.now names.whole names.written) in
-    let equal : c.as_slice.result.now ≡ c.args.text.now = c.as_slice.ensures ∙ c.printed.ensures.text ∙ same ∙ sym names.written in
-    let alike = (slice_eq-Decides Decides-eqb c.as_slice.result.now c.args.text.now _ refl).1 equal in
-    true≢false (sym c.if-ne.true ∙ c.ne.ensures ∙ ap not alike)
-
-pub returns-then-seconds-lt0-clause-bad : goal.returns-then-seconds-lt0-clause-bad
-returns-then-seconds-lt0-clause-bad c =
-    λ n names.
-    let same = same_seconds c.in-Some.at names.at c.args.text.now c.in-Some.ensures.some (parts_of_text names.at c.args.text.now names.whole names.written) in
-    let counted : c.to_second-seconds.result ≡ pos n = c.to_second-seconds.ensures.value ∙ same ∙ names.counted in
-    omega (arith, signed_arith, counted, c.if-seconds-lt0.true)
-
-pub returns-clause-value : goal.returns-clause-value
-returns-clause-value c =
-    let seconds = c.to_second-seconds.result in
-    let fits : FitsSigned w64 seconds = omega (arith, signed_arith, c.to_second-seconds.type_inv) in
-    let same = to_z-of_z w64 seconds fits in
-    let below = rw same at c.if-seconds-lt0.false in
-    let low : pos 0 ≤ℤ seconds = omega (arith, ints, below) in
-    let alike = from_not _ (sym c.if-ne.false ∙ c.ne.ensures) in
-    let equal = (slice_eq-Decides Decides-eqb c.as_slice.result.now c.args.text.now _ refl).0 alike in
-    record {
-      at = c.in-Some.at;
-      whole = record { year = omega (arith, signed_arith, c.in-Some.ensures.some.year); second = c.in-Some.ensures.some.whole };
-      written = sym equal ∙ c.as_slice.ensures ∙ c.printed.ensures.text;
-      counted = sym c.to_second-seconds.ensures.value ∙ abs_pos seconds low ∙ ap (λ (z : ℤ). pos (unsigned_abs z)) (sym same);
-    }
+pub returns-in-None-clause-bad : goal.returns-in-None-clause-bad
+returns-in-None-clause-bad c =
+    λ n small is. c.in-None.ensures.none n (subst (λ text. Names text n) (sym is) (names_text n small))
