@@ -1,13 +1,10 @@
-// A library with one function.
+//! Replies to the lines of a script, and the one text of each (`docs/SCRIPT.md`, "Replies").
 #![tactic(auto)]
 
-ghost use Rattle.std.specs.Prelude.{◌≡◌};
-ghost use Rattle.tm_reply.specs.Echo.{echo_of};
+mod refusal;
+mod reply;
+mod row;
+mod words;
 
-// The `ensures` clause is the contract: what `echo` returns is `echo_of` of its argument, a definition
-// in `specs/Echo.antt`, which a caller's clause can cite too.
-pub fn echo(x: usize) -> usize
-    ensures { result ≡ echo_of x }
-{
-    x
-}
+pub use reply::{Reply, ReplyRows, print};
+pub use row::{Attributes, Kind, ListedName, ReplyRow};

@@ -1,4 +1,9 @@
 //! The data lines of replies.
+ghost use Rattle.std.specs.Prelude.{◌≡◌, ℕ, IfOk, string_bytes};
+ghost use Rattle.tm_reply.specs.Rows.{IsRowText, machine_path, IsSnapshotPath, IsInProgressName};
+
+use crate::words::{encode, encode_path, print_id, print_mode};
+use std::alloc::{AllocError, Global};
 use tm_base::{Moment, Name, Path};
 use tm_world::Bytes;
 
@@ -17,12 +22,12 @@ pub struct Attributes {
     pub extras: u64,
 }
 
-/// How a listed item's line names the item.
+/// What a listed item's line calls the item.
 #[derive(Drop)]
-pub enum Label {
-    /// By its path inside the volume: the item itself.
+pub enum ListedName {
+    /// Its path inside the volume: the item that was asked for.
     Path(Path),
-    /// By its name: an entry of the listed folder.
+    /// Its name: an entry of the folder that was asked for.
     Entry(Name),
 }
 
@@ -44,8 +49,8 @@ pub enum ReplyRow {
     Folder {
         /// The folder's attributes.
         attributes: Attributes,
-        /// The folder.
-        label: Label,
+        /// What it is called.
+        name: ListedName,
     },
     /// `file MODE UID GID DATE E LENGTH STAMP WORD`.
     File {
@@ -55,8 +60,8 @@ pub enum ReplyRow {
         length: u64,
         /// Its stamp.
         stamp: u64,
-        /// The file.
-        label: Label,
+        /// What it is called.
+        name: ListedName,
     },
     /// `link MODE UID GID DATE E STAMP WORD TARGET`.
     Link {
@@ -64,8 +69,8 @@ pub enum ReplyRow {
         attributes: Attributes,
         /// Its stamp.
         stamp: u64,
-        /// The link.
-        label: Label,
+        /// What it is called.
+        name: ListedName,
         /// Its target.
         target: Bytes,
     },
@@ -174,4 +179,233 @@ pub enum ReplyRow {
         /// The number of snapshots.
         snapshots: u64,
     },
+}
+
+impl Attributes {
+    ghost use Rattle.tm_reply.specs.Rows.{IsAttributesText};
+
+    // MODE UID GID DATE E.
+    #[tactic(auto, unfolding(crate::specs::Rows::IsAttributesText))]
+    fn print(&self, alloc: Global) -> Result<String, AllocError>
+        ensures { IfOk result (λ text. IsAttributesText self.now (string_bytes text)) }
+    {
+        let mode = print_mode(alloc, self.mode)?;
+        let date = self.modified.print(alloc)?;
+        let uid = self.uid;
+        let gid = self.gid;
+        let extras = self.extras;
+        format!(in alloc; "{mode} {uid} {gid} {date} {extras}")
+    }
+}
+
+impl ListedName {
+    ghost use Rattle.tm_reply.specs.Rows.{printed_name};
+
+    // The path, or the name.
+    #[tactic(auto, unfolding(crate::specs::Rows::printed_name))]
+    fn print(&self, alloc: Global) -> Result<String, AllocError>
+        ensures { IfOk result (λ text. string_bytes text ≡ printed_name self.now) }
+    {
+        match self {
+            ListedName::Path(path) => encode_path(alloc, path),
+            ListedName::Entry(name) => encode(alloc, name.as_bytes()),
+        }
+    }
+}
+
+impl Kind {
+    ghost use Rattle.tm_reply.specs.Rows.{kind_word};
+
+    // The word for the kind.
+    #[tactic(auto, unfolding(crate::specs::Rows::kind_word))]
+    fn print(self) -> &'static str
+        ensures { result.now ≡ kind_word self }
+    {
+        match self {
+            Kind::Folder => "folder",
+            Kind::File => "file",
+            Kind::Link => "link",
+        }
+    }
+}
+
+// The path of a machine's folder.
+#[tactic(auto, unfolding(crate::specs::Rows::machine_path))]
+fn print_machine_path(alloc: Global, machine: &Name) -> Result<String, AllocError>
+    ensures { IfOk result (λ text. string_bytes text ≡ machine_path machine.now) }
+{
+    let machine = encode(alloc, machine.as_bytes())?;
+    format!(in alloc; "/Backups.backupdb/{machine}")
+}
+
+// The path of a snapshot.
+#[tactic(auto, unfolding(crate::specs::Rows::IsSnapshotPath))]
+fn print_snapshot_path(alloc: Global, machine: &Name, date: Moment) -> Result<String, AllocError>
+    ensures { IfOk result (λ text. IsSnapshotPath machine.now date (string_bytes text)) }
+{
+    let machine = print_machine_path(alloc, machine)?;
+    let date = date.print(alloc)?;
+    format!(in alloc; "{machine}/{date}")
+}
+
+// The name of a snapshot that is not finished.
+#[tactic(auto, unfolding(crate::specs::Rows::IsInProgressName))]
+fn print_in_progress(alloc: Global, date: Moment) -> Result<String, AllocError>
+    ensures { IfOk result (λ text. IsInProgressName date (string_bytes text)) }
+{
+    let date = date.print(alloc)?;
+    format!(in alloc; "{date}.inProgress")
+}
+
+impl ReplyRow {
+    ghost use Rattle.tm_reply.specs.Rows.{IsRowText};
+
+    /// The text of the line, with its end.
+    pub fn print(&self, alloc: Global) -> Result<String, AllocError>
+        ensures { IfOk result (λ text. IsRowText self.now (string_bytes text)) }
+    {
+        match self {
+            ReplyRow::Folder { attributes, name } => {
+                let head = attributes.print(alloc)?;
+                let name = name.print(alloc)?;
+                format!(in alloc; "folder {head} {name}\n")
+            }
+            ReplyRow::File {
+                attributes,
+                length,
+                stamp,
+                name,
+            } => {
+                let head = attributes.print(alloc)?;
+                let name = name.print(alloc)?;
+                format!(in alloc; "file {head} {length} {stamp} {name}\n")
+            }
+            ReplyRow::Link {
+                attributes,
+                stamp,
+                name,
+                target,
+            } => {
+                let head = attributes.print(alloc)?;
+                let name = name.print(alloc)?;
+                let target = encode(alloc, target.as_slice())?;
+                format!(in alloc; "link {head} {stamp} {name} {target}\n")
+            }
+            ReplyRow::Extra { name, value } => print_extra(alloc, name, value),
+            ReplyRow::Contents(bytes) => print_contents(alloc, bytes),
+            ReplyRow::Target(target) => {
+                let target = encode(alloc, target.as_slice())?;
+                format!(in alloc; "target {target}\n")
+            }
+            ReplyRow::Generated {
+                files,
+                folders,
+                bytes,
+            } => format!(in alloc; "gen files {files} folders {folders} bytes {bytes}\n"),
+            ReplyRow::Running { left } => format!(in alloc; "running {left}\n"),
+            ReplyRow::Finished { date, walked } => {
+                let date = date.print(alloc)?;
+                format!(in alloc; "finished {date} walked {walked}\n")
+            }
+            ReplyRow::SnapshotPath { machine, date } => {
+                let path = print_snapshot_path(alloc, machine, *date)?;
+                format!(in alloc; "{path}\n")
+            }
+            ReplyRow::MachineDirectory(machine) => {
+                let path = print_machine_path(alloc, machine)?;
+                format!(in alloc; "{path}\n")
+            }
+            ReplyRow::Excluded(path) => {
+                let path = encode_path(alloc, path)?;
+                format!(in alloc; "[Excluded] {path}\n")
+            }
+            ReplyRow::Included(path) => {
+                let path = encode_path(alloc, path)?;
+                format!(in alloc; "[Included] {path}\n")
+            }
+            ReplyRow::Unique { bytes } => format!(in alloc; "unique {bytes}\n"),
+            ReplyRow::Removed { machine, date } => {
+                let path = print_snapshot_path(alloc, machine, *date)?;
+                format!(in alloc; "removed {path}\n")
+            }
+            ReplyRow::Event { id, flags, path } => {
+                let path = encode_path(alloc, path)?;
+                format!(in alloc; "event {id} {flags} {path}\n")
+            }
+            ReplyRow::Uuid(id) => {
+                let id = print_id(alloc, *id)?;
+                format!(in alloc; "uuid {id}\n")
+            }
+            ReplyRow::Machine(name) => {
+                let name = encode(alloc, name.as_bytes())?;
+                format!(in alloc; "machine {name}\n")
+            }
+            ReplyRow::Snapshot(date) => {
+                let date = date.print(alloc)?;
+                format!(in alloc; "snapshot {date}\n")
+            }
+            ReplyRow::InProgress(date) => {
+                let name = print_in_progress(alloc, *date)?;
+                format!(in alloc; "running {name}\n")
+            }
+            ReplyRow::Latest(date) => {
+                let date = date.print(alloc)?;
+                format!(in alloc; "latest {date}\n")
+            }
+            ReplyRow::Volume { name, id } => {
+                let name = encode(alloc, name.as_bytes())?;
+                let id = print_id(alloc, *id)?;
+                format!(in alloc; "volume {name} {id}\n")
+            }
+            ReplyRow::Stat { kind, label, links } => {
+                let kind = kind.print();
+                format!(in alloc; "stat {kind} label {label} links {links}\n")
+            }
+            ReplyRow::Df {
+                blocks,
+                free,
+                nodes,
+                stored,
+                snapshots,
+            } => print_df(alloc, *blocks, *free, *nodes, *stored, *snapshots),
+        }
+    }
+}
+
+// `extra NAME VALUE`, or `extra NAME` where the value is empty.
+fn print_extra(alloc: Global, name: &Name, value: &Bytes) -> Result<String, AllocError>
+    ensures { IfOk result (λ text. IsRowText (ReplyRow.Extra name.now value.now) (string_bytes text)) }
+{
+    let name = encode(alloc, name.as_bytes())?;
+    if value.as_slice().is_empty() {
+        return format!(in alloc; "extra {name}\n");
+    }
+    let value = encode(alloc, value.as_slice())?;
+    format!(in alloc; "extra {name} {value}\n")
+}
+
+// `bytes LENGTH WORD`, or `bytes 0` where there is none.
+fn print_contents(alloc: Global, bytes: &Bytes) -> Result<String, AllocError>
+    ensures { IfOk result (λ text. IsRowText (ReplyRow.Contents bytes.now) (string_bytes text)) }
+{
+    if bytes.as_slice().is_empty() {
+        return String::from_str(alloc, "bytes 0\n");
+    }
+    let length = bytes.as_slice().len();
+    let word = encode(alloc, bytes.as_slice())?;
+    format!(in alloc; "bytes {length} {word}\n")
+}
+
+// `df blocks T free F nodes N stored S snapshots C`.
+fn print_df(
+    alloc: Global,
+    blocks: u64,
+    free: u64,
+    nodes: u64,
+    stored: u64,
+    snapshots: u64,
+) -> Result<String, AllocError>
+    ensures { IfOk result (λ text. IsRowText (ReplyRow.Df blocks free nodes stored snapshots) (string_bytes text)) }
+{
+    format!(in alloc; "df blocks {blocks} free {free} nodes {nodes} stored {stored} snapshots {snapshots}\n")
 }

@@ -1,0 +1,5 @@
+pub mod Escapes
+pub mod Layout
+pub mod Rows
+pub mod Closings
+pub mod Replies
