@@ -21,6 +21,6 @@ pub rows_more : (rows : List ReplyRow) (i : ℕ) (row : ReplyRow) (text line new
     → AreRowTexts (take i rows) text → IsRowText row line → new ≡ text ++ line → AreRowTexts (take (i + 1) rows) new
 rows_more rows i row text line new low is before l e =
     let more : take (suc i) rows ≡ take i rows ++ row ∷ [] =
-        take-suc rows i row low ∙ ap (λ (r : ReplyRow). take i rows ++ r ∷ []) (sym is)
+    take-suc rows i row low ∙ ap (λ (r : ReplyRow). take i rows ++ r ∷ []) (sym is)
     in
     rw (e, add-one, more) (AreRowTexts-push (take i rows) row text line before l)

@@ -3,3 +3,4 @@ pub mod Layout
 pub mod Rows
 pub mod Closings
 pub mod Replies
+pub mod ReplyLaws

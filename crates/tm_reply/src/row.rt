@@ -407,5 +407,7 @@ fn print_df(
 ) -> Result<String, AllocError>
     ensures { IfOk result (λ text. IsRowText (ReplyRow.Df blocks free nodes stored snapshots) (string_bytes text)) }
 {
-    format!(in alloc; "df blocks {blocks} free {free} nodes {nodes} stored {stored} snapshots {snapshots}\n")
+    format!(in alloc;
+        "df blocks {blocks} free {free} nodes {nodes} stored {stored} snapshots {snapshots}\n"
+    )
 }
