@@ -1,0 +1,7 @@
+use Rattle.std.proofs.Common.{take}
+use Rattle.std.specs.String.{string_bytes}
+use Rattle.tm_reply.specs.Replies.{AreRowTexts}
+use Rattle.tm_reply.proofs.reply.print.Given as goal
+
+abbrev pub invariant-loop-row : goal.invariant-loop-row
+invariant-loop-row l = AreRowTexts (take l.row-index l.row-items) (string_bytes l.text)
