@@ -6,7 +6,7 @@ use Rattle.std.specs.Int.{w128, to_be_bytes}
 use Rattle.std.proofs.lemmas.List.Folds.{list_all-append}
 use Rattle.std.proofs.lemmas.Bool.Decides.{nat_tests}
 use Rattle.uuid.specs.Text.{by_index, hex_digit, lower, hyphenated_text, is_hyphen_place, digit_place, nibble, hyphen}
-use Rattle.tm_base.specs.Moments.{Names, text_of}
+use Rattle.tm_base.specs.Days.{moment_text}
 use Rattle.tm_reply.specs.Escapes.{printed_byte, printed_word, printed_path, printed_id, printed_octal, is_escaped, upper_digit}
 use Rattle.tm_reply.specs.Layout.{spaced, line_of}
 use Rattle.tm_reply.specs.ReplyLaws.{is_unbroken}
@@ -83,16 +83,16 @@ unbroken_path (name ∷ names) = unbroken_names (name ∷ names)
 
 -- dates and ids
 
-pub unbroken_date : (text : List ℕ) (n : ℕ) → Names text n → IsUnbroken text
-unfolding text_of
-unbroken_date text n names =
-    let end : IsUnbroken [] = record { unbroken = refl } in
+pub unbroken_date : (n : ℕ) → IsUnbroken (moment_text n)
+unfolding moment_text
+unbroken_date n =
     let above : (d : ℕ) → 0x0A < 48 + d = λ d. omega arith in
-    let digit : (d : ℕ) (rest : List ℕ) → IsUnbroken rest → IsUnbroken ((48 + d) ∷ rest) = λ d rest p. unbroken_more (48 + d) rest (above d) p in
+    let digit : (d : ℕ) (rest : List ℕ) → IsUnbroken rest → IsUnbroken ((48 + d) ∷ rest) =
+        λ d rest p. unbroken_more (48 + d) rest (above d) p
+    in
     let dash : (rest : List ℕ) → IsUnbroken rest → IsUnbroken (45 ∷ rest) = λ rest p. unbroken_more 45 rest (lit< tt) p in
-    rw names.written
-    (digit _ _ (digit _ _ (digit _ _ (digit _ _ (dash _ (digit _ _ (digit _ _ (dash _ (digit _ _ (digit _ _ (dash _
-    (digit _ _ (digit _ _ (digit _ _ (digit _ _ (digit _ _ (digit _ _ end)))))))))))))))))
+    digit _ _ (digit _ _ (digit _ _ (digit _ _ (dash _ (digit _ _ (digit _ _ (dash _ (digit _ _ (digit _ _ (dash _
+    (digit _ _ (digit _ _ (digit _ _ (digit _ _ (digit _ _ (digit _ _ (record { unbroken = refl })))))))))))))))))
 
 unbroken_by_index : (n : ℕ) (f : ℕ → ℕ) → ((k : ℕ) → 0x0A < f k) → IsUnbroken (by_index n f)
 unfolding by_index

@@ -1,17 +1,16 @@
 -- Each reply's text ends with its one closing line.
 use Rattle.std.proofs.Common.{◌≡◌, ℕ, ◌&&◌, not, Bool, true, false, List, [], ◌∷◌, ◌++◌, Option, Some, None, refl, sym, ap, ap₂, ◌∙◌, subst, true≢false, append_assoc, length, codes}
-use Rattle.std.specs.List.{list_all}
+use Rattle.std.specs.List.{list_all, flat_map}
 use Rattle.std.specs.Fmt.{decimal}
-use Rattle.tm_base.specs.Moments.{Names}
+use Rattle.tm_base.specs.Days.{moment_text}
 use Rattle.tm_base.specs.Refusals.{number_of}
-use Rattle.tm_base.proofs.MomentLemmas.{named_once}
 use Rattle.tm_base.specs.declared.refused.Refused.{Refused}
 use Rattle.tm_base.specs.declared.refused.Refused.TheVariants as refused
 use Rattle.tm_reply.specs.Layout.{spaced, line_of}
 use Rattle.tm_reply.specs.Escapes.{printed_word, printed_path, printed_id, printed_octal}
-use Rattle.tm_reply.specs.Rows.{IsAttributesText, printed_name, kind_word, machine_path, IsSnapshotPath, IsInProgressName, IsRowText}
-use Rattle.tm_reply.specs.Closings.{IsRefusalText, IsClosing}
-use Rattle.tm_reply.specs.Replies.{AreRowTexts, IsReplyText}
+use Rattle.tm_reply.specs.Rows.{attributes_text, printed_name, kind_word, machine_path, snapshot_path, in_progress_name, row_text}
+use Rattle.tm_reply.specs.Closings.{refusal_text, closing_text}
+use Rattle.tm_reply.specs.Replies.{reply_text}
 use Rattle.tm_reply.specs.ReplyLaws.{is_unbroken, closes, goes_on, lines_then, ClosesOnce}
 use Rattle.tm_reply.specs.declared.reply.Reply.{Reply}
 use Rattle.tm_reply.specs.declared.row.Attributes.{Attributes}
@@ -39,22 +38,21 @@ record IsLastText (text : List ℕ) : Type 0 where
 both : (a b : Bool) → a ≡ true → b ≡ false → (a && not b) ≡ true
 both a b p q = rw (p, q) refl
 
-data_line : (words : List (List ℕ)) (text : List ℕ) → text ≡ line_of words → AllUnbroken words → closes (spaced words) ≡ false → IsDataText text
-data_line words text is unbroken other = record {
+data_line : (words : List (List ℕ)) → AllUnbroken words → closes (spaced words) ≡ false → IsDataText (line_of words)
+data_line words unbroken other = record {
   line = spaced words;
   goes_on = both _ _ (unbroken_spaced words unbroken).unbroken other;
-  ended = is ∙ line_of-spaced words;
+  ended = line_of-spaced words;
 }
 
 literal : (text : List ℕ) → is_unbroken text ≡ true → IsUnbroken text
 literal text p = record { unbroken = p }
 
-unbroken_attributes : (a : Attributes) (text : List ℕ) → IsAttributesText a text → IsUnbroken text
-unfolding IsAttributesText
-unbroken_attributes a text p =
-    rw p.2
-    (unbroken_spaced (printed_octal a.mode ∷ decimal a.uid ∷ decimal a.gid ∷ p.0 ∷ decimal a.extras ∷ [])
-    (unbroken_octal a.mode, (unbroken_decimal a.uid, (unbroken_decimal a.gid, (unbroken_date p.0 a.modified p.1, (unbroken_decimal a.extras, tt))))))
+unbroken_attributes : (a : Attributes) → IsUnbroken (attributes_text a)
+unfolding attributes_text
+unbroken_attributes a =
+    unbroken_spaced (printed_octal a.mode ∷ decimal a.uid ∷ decimal a.gid ∷ moment_text a.modified ∷ decimal a.extras ∷ [])
+    (unbroken_octal a.mode, (unbroken_decimal a.uid, (unbroken_decimal a.gid, (unbroken_date a.modified, (unbroken_decimal a.extras, tt)))))
 
 unbroken_listed : (name : ListedName) → IsUnbroken (printed_name name)
 unfolding printed_name
@@ -71,156 +69,171 @@ unbroken_machine : (machine : List ℕ) → IsUnbroken (machine_path machine)
 unfolding machine_path
 unbroken_machine machine = unbroken_append (codes "/Backups.backupdb/") _ (literal _ refl) (unbroken_word machine)
 
-unbroken_snapshot : (machine : List ℕ) (at : ℕ) (text : List ℕ) → IsSnapshotPath machine at text → IsUnbroken text
-unfolding IsSnapshotPath
-unbroken_snapshot machine at text p =
-    rw p.2
-    (unbroken_append (machine_path machine) _ (unbroken_machine machine) (unbroken_append (codes "/") _ (literal _ refl) (unbroken_date p.0 at p.1)))
+unbroken_snapshot : (machine : List ℕ) (date : ℕ) → IsUnbroken (snapshot_path machine date)
+unfolding snapshot_path
+unbroken_snapshot machine date =
+    unbroken_append (machine_path machine) _ (unbroken_machine machine) (unbroken_append (codes "/") _ (literal _ refl) (unbroken_date date))
 
-unbroken_running : (at : ℕ) (text : List ℕ) → IsInProgressName at text → IsUnbroken text
-unfolding IsInProgressName
-unbroken_running at text p = rw p.2 (unbroken_append p.0 _ (unbroken_date p.0 at p.1) (literal _ refl))
+unbroken_in_progress : (date : ℕ) → IsUnbroken (in_progress_name date)
+unfolding in_progress_name
+unbroken_in_progress date = unbroken_append (moment_text date) _ (unbroken_date date) (literal _ refl)
 
--- a path of a snapshot is no closing line
-snapshot_open : (machine : List ℕ) (at : ℕ) (text : List ℕ) → IsSnapshotPath machine at text → closes text ≡ false
-unfolding IsSnapshotPath machine_path
-snapshot_open machine at text p = rw p.2 refl
+-- a path of a store is no closing line
+snapshot_open : (machine : List ℕ) (date : ℕ) → closes (snapshot_path machine date) ≡ false
+unfolding snapshot_path machine_path
+snapshot_open machine date = refl
 
 machine_open : (machine : List ℕ) → closes (machine_path machine) ≡ false
 unfolding machine_path
 machine_open machine = refl
 
-row_goes_on : (r : ReplyRow) (text : List ℕ) → IsRowText r text → IsDataText text
-row_goes_on (row.Folder a name) text p =
-    data_line (codes "folder" ∷ p.0 ∷ printed_name name ∷ []) text p.2 (literal _ refl, (unbroken_attributes a p.0 p.1, (unbroken_listed name, tt))) refl
-row_goes_on (row.File a bytes stamp name) text p =
-    data_line (codes "file" ∷ p.0 ∷ decimal bytes ∷ decimal stamp ∷ printed_name name ∷ []) text p.2
-    (literal _ refl, (unbroken_attributes a p.0 p.1, (unbroken_decimal bytes, (unbroken_decimal stamp, (unbroken_listed name, tt))))) refl
-row_goes_on (row.Link a stamp name target) text p =
-    data_line (codes "link" ∷ p.0 ∷ decimal stamp ∷ printed_name name ∷ printed_word target ∷ []) text p.2
-    (literal _ refl, (unbroken_attributes a p.0 p.1, (unbroken_decimal stamp, (unbroken_listed name, (unbroken_word target, tt))))) refl
-row_goes_on (row.Extra name []) text p = data_line (codes "extra" ∷ printed_word name ∷ []) text p (literal _ refl, (unbroken_word name, tt)) refl
-row_goes_on (row.Extra name (b ∷ value)) text p =
-    data_line (codes "extra" ∷ printed_word name ∷ printed_word (b ∷ value) ∷ []) text p (literal _ refl, (unbroken_word name, (unbroken_word (b ∷ value), tt))) refl
-row_goes_on (row.Contents []) text p = data_line (codes "bytes" ∷ codes "0" ∷ []) text p (literal _ refl, (literal _ refl, tt)) refl
-row_goes_on (row.Contents (b ∷ bytes)) text p =
-    data_line (codes "bytes" ∷ decimal (length (b ∷ bytes)) ∷ printed_word (b ∷ bytes) ∷ []) text p (literal _ refl, (unbroken_decimal (length (b ∷ bytes)), (unbroken_word (b ∷ bytes), tt))) refl
-row_goes_on (row.Target target) text p = data_line (codes "target" ∷ printed_word target ∷ []) text p (literal _ refl, (unbroken_word target, tt)) refl
-row_goes_on (row.Generated files folders bytes) text p =
-    data_line (codes "gen" ∷ codes "files" ∷ decimal files ∷ codes "folders" ∷ decimal folders ∷ codes "bytes" ∷ decimal bytes ∷ []) text p
+row_goes_on : (r : ReplyRow) → IsDataText (row_text r)
+row_goes_on (row.Folder a name) =
+    data_line (codes "folder" ∷ attributes_text a ∷ printed_name name ∷ [])
+    (literal _ refl, (unbroken_attributes a, (unbroken_listed name, tt))) refl
+row_goes_on (row.File a bytes stamp name) =
+    data_line (codes "file" ∷ attributes_text a ∷ decimal bytes ∷ decimal stamp ∷ printed_name name ∷ [])
+    (literal _ refl, (unbroken_attributes a, (unbroken_decimal bytes, (unbroken_decimal stamp, (unbroken_listed name, tt))))) refl
+row_goes_on (row.Link a stamp name target) =
+    data_line (codes "link" ∷ attributes_text a ∷ decimal stamp ∷ printed_name name ∷ printed_word target ∷ [])
+    (literal _ refl, (unbroken_attributes a, (unbroken_decimal stamp, (unbroken_listed name, (unbroken_word target, tt))))) refl
+row_goes_on (row.Extra name []) =
+    data_line (codes "extra" ∷ printed_word name ∷ [])
+    (literal _ refl, (unbroken_word name, tt)) refl
+row_goes_on (row.Extra name (b ∷ value)) =
+    data_line (codes "extra" ∷ printed_word name ∷ printed_word (b ∷ value) ∷ [])
+    (literal _ refl, (unbroken_word name, (unbroken_word (b ∷ value), tt))) refl
+row_goes_on (row.Contents []) =
+    data_line (codes "bytes" ∷ codes "0" ∷ [])
+    (literal _ refl, (literal _ refl, tt)) refl
+row_goes_on (row.Contents (b ∷ bytes)) =
+    data_line (codes "bytes" ∷ decimal (length (b ∷ bytes)) ∷ printed_word (b ∷ bytes) ∷ [])
+    (literal _ refl, (unbroken_decimal (length (b ∷ bytes)), (unbroken_word (b ∷ bytes), tt))) refl
+row_goes_on (row.Target target) =
+    data_line (codes "target" ∷ printed_word target ∷ [])
+    (literal _ refl, (unbroken_word target, tt)) refl
+row_goes_on (row.Generated files folders bytes) =
+    data_line (codes "gen" ∷ codes "files" ∷ decimal files ∷ codes "folders" ∷ decimal folders ∷ codes "bytes" ∷ decimal bytes ∷ [])
     (literal _ refl, (literal _ refl, (unbroken_decimal files, (literal _ refl, (unbroken_decimal folders, (literal _ refl, (unbroken_decimal bytes, tt))))))) refl
-row_goes_on (row.Running left) text p = data_line (codes "running" ∷ decimal left ∷ []) text p (literal _ refl, (unbroken_decimal left, tt)) refl
-row_goes_on (row.Finished at walked) text p =
-    data_line (codes "finished" ∷ p.0 ∷ codes "walked" ∷ decimal walked ∷ []) text p.2 (literal _ refl, (unbroken_date p.0 at p.1, (literal _ refl, (unbroken_decimal walked, tt)))) refl
-row_goes_on (row.SnapshotPath machine at) text p =
-    data_line (p.0 ∷ []) text p.2 (unbroken_snapshot machine at p.0 p.1, tt) (snapshot_open machine at p.0 p.1)
-row_goes_on (row.MachineDirectory machine) text p = data_line (machine_path machine ∷ []) text p (unbroken_machine machine, tt) (machine_open machine)
-row_goes_on (row.Excluded path) text p = data_line (codes "[Excluded]" ∷ printed_path path ∷ []) text p (literal _ refl, (unbroken_path path, tt)) refl
-row_goes_on (row.Included path) text p = data_line (codes "[Included]" ∷ printed_path path ∷ []) text p (literal _ refl, (unbroken_path path, tt)) refl
-row_goes_on (row.Unique bytes) text p = data_line (codes "unique" ∷ decimal bytes ∷ []) text p (literal _ refl, (unbroken_decimal bytes, tt)) refl
-row_goes_on (row.Removed machine at) text p = data_line (codes "removed" ∷ p.0 ∷ []) text p.2 (literal _ refl, (unbroken_snapshot machine at p.0 p.1, tt)) refl
-row_goes_on (row.Event id flags path) text p =
-    data_line (codes "event" ∷ decimal id ∷ decimal flags ∷ printed_path path ∷ []) text p (literal _ refl, (unbroken_decimal id, (unbroken_decimal flags, (unbroken_path path, tt)))) refl
-row_goes_on (row.Uuid id) text p = data_line (codes "uuid" ∷ printed_id id ∷ []) text p (literal _ refl, (unbroken_id id, tt)) refl
-row_goes_on (row.Machine name) text p = data_line (codes "machine" ∷ printed_word name ∷ []) text p (literal _ refl, (unbroken_word name, tt)) refl
-row_goes_on (row.Snapshot at) text p = data_line (codes "snapshot" ∷ p.0 ∷ []) text p.2 (literal _ refl, (unbroken_date p.0 at p.1, tt)) refl
-row_goes_on (row.InProgress at) text p = data_line (codes "running" ∷ p.0 ∷ []) text p.2 (literal _ refl, (unbroken_running at p.0 p.1, tt)) refl
-row_goes_on (row.Latest at) text p = data_line (codes "latest" ∷ p.0 ∷ []) text p.2 (literal _ refl, (unbroken_date p.0 at p.1, tt)) refl
-row_goes_on (row.Volume name id) text p = data_line (codes "volume" ∷ printed_word name ∷ printed_id id ∷ []) text p (literal _ refl, (unbroken_word name, (unbroken_id id, tt))) refl
-row_goes_on (row.Stat k label links) text p =
-    data_line (codes "stat" ∷ kind_word k ∷ codes "label" ∷ decimal label ∷ codes "links" ∷ decimal links ∷ []) text p
+row_goes_on (row.Running left) =
+    data_line (codes "running" ∷ decimal left ∷ [])
+    (literal _ refl, (unbroken_decimal left, tt)) refl
+row_goes_on (row.Finished date walked) =
+    data_line (codes "finished" ∷ moment_text date ∷ codes "walked" ∷ decimal walked ∷ [])
+    (literal _ refl, (unbroken_date date, (literal _ refl, (unbroken_decimal walked, tt)))) refl
+row_goes_on (row.SnapshotPath machine date) =
+    data_line (snapshot_path machine date ∷ [])
+    (unbroken_snapshot machine date, tt) (snapshot_open machine date)
+row_goes_on (row.MachineDirectory machine) =
+    data_line (machine_path machine ∷ [])
+    (unbroken_machine machine, tt) (machine_open machine)
+row_goes_on (row.Excluded path) =
+    data_line (codes "[Excluded]" ∷ printed_path path ∷ [])
+    (literal _ refl, (unbroken_path path, tt)) refl
+row_goes_on (row.Included path) =
+    data_line (codes "[Included]" ∷ printed_path path ∷ [])
+    (literal _ refl, (unbroken_path path, tt)) refl
+row_goes_on (row.Unique bytes) =
+    data_line (codes "unique" ∷ decimal bytes ∷ [])
+    (literal _ refl, (unbroken_decimal bytes, tt)) refl
+row_goes_on (row.Removed machine date) =
+    data_line (codes "removed" ∷ snapshot_path machine date ∷ [])
+    (literal _ refl, (unbroken_snapshot machine date, tt)) refl
+row_goes_on (row.Event id flags path) =
+    data_line (codes "event" ∷ decimal id ∷ decimal flags ∷ printed_path path ∷ [])
+    (literal _ refl, (unbroken_decimal id, (unbroken_decimal flags, (unbroken_path path, tt)))) refl
+row_goes_on (row.Uuid id) =
+    data_line (codes "uuid" ∷ printed_id id ∷ [])
+    (literal _ refl, (unbroken_id id, tt)) refl
+row_goes_on (row.Machine name) =
+    data_line (codes "machine" ∷ printed_word name ∷ [])
+    (literal _ refl, (unbroken_word name, tt)) refl
+row_goes_on (row.Snapshot date) =
+    data_line (codes "snapshot" ∷ moment_text date ∷ [])
+    (literal _ refl, (unbroken_date date, tt)) refl
+row_goes_on (row.InProgress date) =
+    data_line (codes "running" ∷ in_progress_name date ∷ [])
+    (literal _ refl, (unbroken_in_progress date, tt)) refl
+row_goes_on (row.Latest date) =
+    data_line (codes "latest" ∷ moment_text date ∷ [])
+    (literal _ refl, (unbroken_date date, tt)) refl
+row_goes_on (row.Volume name id) =
+    data_line (codes "volume" ∷ printed_word name ∷ printed_id id ∷ [])
+    (literal _ refl, (unbroken_word name, (unbroken_id id, tt))) refl
+row_goes_on (row.Stat k label links) =
+    data_line (codes "stat" ∷ kind_word k ∷ codes "label" ∷ decimal label ∷ codes "links" ∷ decimal links ∷ [])
     (literal _ refl, (unbroken_kind k, (literal _ refl, (unbroken_decimal label, (literal _ refl, (unbroken_decimal links, tt)))))) refl
-row_goes_on (row.Df blocks free nodes stored snapshots) text p =
-    data_line (codes "df" ∷ codes "blocks" ∷ decimal blocks ∷ codes "free" ∷ decimal free ∷ codes "nodes" ∷ decimal nodes ∷ codes "stored" ∷ decimal stored ∷ codes "snapshots" ∷ decimal snapshots ∷ []) text p (
-      literal _ refl,
-      (
-        literal _ refl,
-        (
-          unbroken_decimal blocks,
-          (
-            literal _ refl,
-            (
-              unbroken_decimal free,
-              (
-                literal _ refl,
-                (
-                  unbroken_decimal nodes,
-                  (literal _ refl, (unbroken_decimal stored, (literal _ refl, (unbroken_decimal snapshots, tt)))),
-                ),
-              ),
-            ),
-          ),
-        ),
-      ),
-    ) refl
+row_goes_on (row.Df blocks free nodes stored snapshots) =
+    data_line (codes "df" ∷ codes "blocks" ∷ decimal blocks ∷ codes "free" ∷ decimal free ∷ codes "nodes" ∷ decimal nodes ∷ codes "stored" ∷ decimal stored ∷ codes "snapshots" ∷ decimal snapshots ∷ [])
+    (literal _ refl, (literal _ refl, (unbroken_decimal blocks, (literal _ refl, (unbroken_decimal free, (literal _ refl, (unbroken_decimal nodes, (literal _ refl, (unbroken_decimal stored, (literal _ refl, (unbroken_decimal snapshots, tt))))))))))) refl
 
 -- the closing line
 
-unbroken_refusal : (r : Refused) (text : List ℕ) → IsRefusalText r text → IsUnbroken text
-unfolding IsRefusalText
-unbroken_refusal refused.NoVolume text p = rw p (literal _ refl)
-unbroken_refusal refused.NoStore text p = rw p (literal _ refl)
-unbroken_refusal refused.Already text p = rw p (literal _ refl)
-unbroken_refusal refused.Small text p = rw p (literal _ refl)
-unbroken_refusal refused.NotFound text p = rw p (literal _ refl)
-unbroken_refusal refused.Exists text p = rw p (literal _ refl)
-unbroken_refusal refused.NotFolder text p = rw p (literal _ refl)
-unbroken_refusal refused.IsFolder text p = rw p (literal _ refl)
-unbroken_refusal refused.NotEmpty text p = rw p (literal _ refl)
-unbroken_refusal refused.IntoSelf text p = rw p (literal _ refl)
-unbroken_refusal refused.TooDeep text p = rw p (literal _ refl)
-unbroken_refusal (refused.TooLong bytes) text p = rw p (unbroken_spaced (codes "TooLong" ∷ decimal bytes ∷ []) (literal _ refl, (unbroken_decimal bytes, tt)))
-unbroken_refusal (refused.TooMany count) text p = rw p (unbroken_spaced (codes "TooMany" ∷ decimal count ∷ []) (literal _ refl, (unbroken_decimal count, tt)))
-unbroken_refusal refused.RootItem text p = rw p (literal _ refl)
-unbroken_refusal (refused.Full need free) text p =
-    rw p (unbroken_spaced (codes "Full" ∷ decimal need ∷ decimal free ∷ []) (literal _ refl, (unbroken_decimal need, (unbroken_decimal free, tt))))
-unbroken_refusal (refused.Busy at) text p = rw p.2 (unbroken_spaced (codes "Busy" ∷ p.0 ∷ []) (literal _ refl, (unbroken_date p.0 at p.1, tt)))
-unbroken_refusal refused.NoBackup text p = rw p (literal _ refl)
-unbroken_refusal (refused.DateNotLater at) text p = rw p.2 (unbroken_spaced (codes "DateNotLater" ∷ p.0 ∷ []) (literal _ refl, (unbroken_date p.0 at p.1, tt)))
-unbroken_refusal refused.NoMoment text p = rw p (literal _ refl)
-unbroken_refusal (refused.ClockBack at) text p = rw p.2 (unbroken_spaced (codes "ClockBack" ∷ p.0 ∷ []) (literal _ refl, (unbroken_date p.0 at p.1, tt)))
-unbroken_refusal refused.NoSnapshot text p = rw p (literal _ refl)
-unbroken_refusal refused.NotExcluded text p = rw p (literal _ refl)
-unbroken_refusal refused.NoAttribute text p = rw p (literal _ refl)
-unbroken_refusal refused.IdsSpent text p = rw p (literal _ refl)
-unbroken_refusal refused.IdTaken text p = rw p (literal _ refl)
-unbroken_refusal refused.NotBuilt text p = rw p (literal _ refl)
+unbroken_refusal : (r : Refused) → IsUnbroken (refusal_text r)
+unfolding refusal_text
+unbroken_refusal refused.NoVolume = literal _ refl
+unbroken_refusal refused.NoStore = literal _ refl
+unbroken_refusal refused.Already = literal _ refl
+unbroken_refusal refused.Small = literal _ refl
+unbroken_refusal refused.NotFound = literal _ refl
+unbroken_refusal refused.Exists = literal _ refl
+unbroken_refusal refused.NotFolder = literal _ refl
+unbroken_refusal refused.IsFolder = literal _ refl
+unbroken_refusal refused.NotEmpty = literal _ refl
+unbroken_refusal refused.IntoSelf = literal _ refl
+unbroken_refusal refused.TooDeep = literal _ refl
+unbroken_refusal (refused.TooLong bytes) = unbroken_spaced (codes "TooLong" ∷ decimal bytes ∷ []) (literal _ refl, (unbroken_decimal bytes, tt))
+unbroken_refusal (refused.TooMany count) = unbroken_spaced (codes "TooMany" ∷ decimal count ∷ []) (literal _ refl, (unbroken_decimal count, tt))
+unbroken_refusal refused.RootItem = literal _ refl
+unbroken_refusal (refused.Full need free) = unbroken_spaced (codes "Full" ∷ decimal need ∷ decimal free ∷ []) (literal _ refl, (unbroken_decimal need, (unbroken_decimal free, tt)))
+unbroken_refusal (refused.Busy date) = unbroken_spaced (codes "Busy" ∷ moment_text date ∷ []) (literal _ refl, (unbroken_date date, tt))
+unbroken_refusal refused.NoBackup = literal _ refl
+unbroken_refusal (refused.DateNotLater date) = unbroken_spaced (codes "DateNotLater" ∷ moment_text date ∷ []) (literal _ refl, (unbroken_date date, tt))
+unbroken_refusal refused.NoMoment = literal _ refl
+unbroken_refusal (refused.ClockBack date) = unbroken_spaced (codes "ClockBack" ∷ moment_text date ∷ []) (literal _ refl, (unbroken_date date, tt))
+unbroken_refusal refused.NoSnapshot = literal _ refl
+unbroken_refusal refused.NotExcluded = literal _ refl
+unbroken_refusal refused.NoAttribute = literal _ refl
+unbroken_refusal refused.IdsSpent = literal _ refl
+unbroken_refusal refused.IdTaken = literal _ refl
+unbroken_refusal refused.NotBuilt = literal _ refl
 
-closing_closes : (r : Option Refused) (text : List ℕ) → IsClosing r text → IsLastText text
-unfolding IsClosing
-closing_closes None text p = record { line = codes "ok"; unbroken = refl; closes = refl; ended = p }
-closing_closes (Some r) text p =
-    let words : List (List ℕ) = codes "refused" ∷ decimal (number_of r) ∷ p.0 ∷ [] in
+closing_closes : (r : Option Refused) → IsLastText (closing_text r)
+unfolding closing_text
+closing_closes None = record { line = codes "ok"; unbroken = refl; closes = refl; ended = refl }
+closing_closes (Some r) =
+    let words : List (List ℕ) = codes "refused" ∷ decimal (number_of r) ∷ refusal_text r ∷ [] in
     record {
       line = spaced words;
-      unbroken = (unbroken_spaced words (literal _ refl, (unbroken_decimal (number_of r), (unbroken_refusal r p.0 p.1, tt)))).unbroken;
+      unbroken = (unbroken_spaced words (literal _ refl, (unbroken_decimal (number_of r), (unbroken_refusal r, tt)))).unbroken;
       closes = refl;
-      ended = p.2 ∙ line_of-spaced words;
+      ended = line_of-spaced words;
     }
 
 -- a reply's text
 
-rows_then : (rows : List ReplyRow) (text rest : List ℕ) → AreRowTexts rows text
-    → (lines : List (List ℕ)) × (list_all goes_on lines ≡ true) × (text ++ rest ≡ lines_then lines rest)
-rows_then [] text rest p = ([], refl, ap (λ (t : List ℕ). t ++ rest) p)
-rows_then (r ∷ rows) text rest p =
-    let first = row_goes_on r p.0 p.2 in
-    let more = rows_then rows p.1 rest p.3 in (
+rows_then : (rows : List ReplyRow) (rest : List ℕ)
+    → (lines : List (List ℕ)) × (list_all goes_on lines ≡ true) × (flat_map row_text rows ++ rest ≡ lines_then lines rest)
+rows_then [] rest = ([], refl, refl)
+rows_then (r ∷ rows) rest =
+    let first = row_goes_on r in
+    let more = rows_then rows rest in
+    let texts = flat_map row_text rows in
+    (
       first.line ∷ more.0,
       rw (first.goes_on, more.1) refl,
-      ap (λ (t : List ℕ). t ++ rest) (p.4 ∙ ap (λ (t : List ℕ). t ++ p.1) first.ended)
-          ∙ append_assoc (first.line ++ 0x0A ∷ []) p.1 rest ∙ append_assoc first.line (0x0A ∷ []) (p.1 ++ rest)
-          ∙ ap (λ (t : List ℕ). first.line ++ 0x0A ∷ t) more.2,
+      append_assoc (row_text r) texts rest ∙ ap (λ (t : List ℕ). t ++ (texts ++ rest)) first.ended
+      ∙ append_assoc first.line (0x0A ∷ []) (texts ++ rest) ∙ ap (λ (t : List ℕ). first.line ++ 0x0A ∷ t) more.2,
     )
 
-pub closes_once : (reply : Reply) (text : List ℕ) → IsReplyText reply text → ClosesOnce text
-closes_once reply text p =
-    let last = closing_closes reply.refused p.1 p.3 in
-    let lines = rows_then reply.rows p.0 p.1 p.2 in
+pub closes_once : (reply : Reply) → ClosesOnce (reply_text reply)
+closes_once reply =
+    let last = closing_closes reply.refused in
+    let lines = rows_then reply.rows (closing_text reply.refused) in
     record {
       rows = lines.0;
       closing = last.line;
-      text_is = p.4 ∙ lines.2 ∙ ap (λ (t : List ℕ). lines_then lines.0 t) last.ended;
+      text_is = lines.2 ∙ ap (λ (t : List ℕ). lines_then lines.0 t) last.ended;
       go_on = lines.1;
       unbroken = last.unbroken;
       closes_it = last.closes;

@@ -1,42 +1,42 @@
 -- The last line of a reply.
-use Rattle.std.specs.Prelude.{◌≡◌, ℕ, List, [], ◌∷◌, Option, Some, None, codes}
+use Rattle.std.specs.Prelude.{ℕ, List, [], ◌∷◌, Option, Some, None, codes}
 use Rattle.std.specs.Fmt.{decimal}
-use Rattle.tm_base.specs.Moments.{Names}
+use Rattle.tm_base.specs.Days.{moment_text}
 use Rattle.tm_base.specs.Refusals.{number_of}
 use Rattle.tm_base.specs.declared.refused.Refused.{Refused}
 use Rattle.tm_base.specs.declared.refused.Refused.TheVariants as refused
 use Rattle.tm_reply.specs.Layout.{spaced, line_of}
 
 -- a refusal's name, and the values that it shows
-unfoldable pub IsRefusalText : Refused → List ℕ → Type 0
-IsRefusalText refused.NoVolume text = text ≡ codes "NoVolume"
-IsRefusalText refused.NoStore text = text ≡ codes "NoStore"
-IsRefusalText refused.Already text = text ≡ codes "Already"
-IsRefusalText refused.Small text = text ≡ codes "Small"
-IsRefusalText refused.NotFound text = text ≡ codes "NotFound"
-IsRefusalText refused.Exists text = text ≡ codes "Exists"
-IsRefusalText refused.NotFolder text = text ≡ codes "NotFolder"
-IsRefusalText refused.IsFolder text = text ≡ codes "IsFolder"
-IsRefusalText refused.NotEmpty text = text ≡ codes "NotEmpty"
-IsRefusalText refused.IntoSelf text = text ≡ codes "IntoSelf"
-IsRefusalText refused.TooDeep text = text ≡ codes "TooDeep"
-IsRefusalText (refused.TooLong bytes) text = text ≡ spaced (codes "TooLong" ∷ decimal bytes ∷ [])
-IsRefusalText (refused.TooMany count) text = text ≡ spaced (codes "TooMany" ∷ decimal count ∷ [])
-IsRefusalText refused.RootItem text = text ≡ codes "RootItem"
-IsRefusalText (refused.Full need free) text = text ≡ spaced (codes "Full" ∷ decimal need ∷ decimal free ∷ [])
-IsRefusalText (refused.Busy at) text = (date : List ℕ) × Names date at × (text ≡ spaced (codes "Busy" ∷ date ∷ []))
-IsRefusalText refused.NoBackup text = text ≡ codes "NoBackup"
-IsRefusalText (refused.DateNotLater at) text = (date : List ℕ) × Names date at × (text ≡ spaced (codes "DateNotLater" ∷ date ∷ []))
-IsRefusalText refused.NoMoment text = text ≡ codes "NoMoment"
-IsRefusalText (refused.ClockBack at) text = (date : List ℕ) × Names date at × (text ≡ spaced (codes "ClockBack" ∷ date ∷ []))
-IsRefusalText refused.NoSnapshot text = text ≡ codes "NoSnapshot"
-IsRefusalText refused.NotExcluded text = text ≡ codes "NotExcluded"
-IsRefusalText refused.NoAttribute text = text ≡ codes "NoAttribute"
-IsRefusalText refused.IdsSpent text = text ≡ codes "IdsSpent"
-IsRefusalText refused.IdTaken text = text ≡ codes "IdTaken"
-IsRefusalText refused.NotBuilt text = text ≡ codes "NotBuilt"
+unfoldable pub refusal_text : Refused → List ℕ
+refusal_text refused.NoVolume = codes "NoVolume"
+refusal_text refused.NoStore = codes "NoStore"
+refusal_text refused.Already = codes "Already"
+refusal_text refused.Small = codes "Small"
+refusal_text refused.NotFound = codes "NotFound"
+refusal_text refused.Exists = codes "Exists"
+refusal_text refused.NotFolder = codes "NotFolder"
+refusal_text refused.IsFolder = codes "IsFolder"
+refusal_text refused.NotEmpty = codes "NotEmpty"
+refusal_text refused.IntoSelf = codes "IntoSelf"
+refusal_text refused.TooDeep = codes "TooDeep"
+refusal_text (refused.TooLong bytes) = spaced (codes "TooLong" ∷ decimal bytes ∷ [])
+refusal_text (refused.TooMany count) = spaced (codes "TooMany" ∷ decimal count ∷ [])
+refusal_text refused.RootItem = codes "RootItem"
+refusal_text (refused.Full need free) = spaced (codes "Full" ∷ decimal need ∷ decimal free ∷ [])
+refusal_text (refused.Busy date) = spaced (codes "Busy" ∷ moment_text date ∷ [])
+refusal_text refused.NoBackup = codes "NoBackup"
+refusal_text (refused.DateNotLater date) = spaced (codes "DateNotLater" ∷ moment_text date ∷ [])
+refusal_text refused.NoMoment = codes "NoMoment"
+refusal_text (refused.ClockBack date) = spaced (codes "ClockBack" ∷ moment_text date ∷ [])
+refusal_text refused.NoSnapshot = codes "NoSnapshot"
+refusal_text refused.NotExcluded = codes "NotExcluded"
+refusal_text refused.NoAttribute = codes "NoAttribute"
+refusal_text refused.IdsSpent = codes "IdsSpent"
+refusal_text refused.IdTaken = codes "IdTaken"
+refusal_text refused.NotBuilt = codes "NotBuilt"
 
 -- `ok`, or `refused NUMBER TEXT`, with its end
-unfoldable pub IsClosing : Option Refused → List ℕ → Type 0
-IsClosing None text = text ≡ line_of (codes "ok" ∷ [])
-IsClosing (Some r) text = (why : List ℕ) × IsRefusalText r why × (text ≡ line_of (codes "refused" ∷ decimal (number_of r) ∷ why ∷ []))
+unfoldable pub closing_text : Option Refused → List ℕ
+closing_text None = line_of (codes "ok" ∷ [])
+closing_text (Some r) = line_of (codes "refused" ∷ decimal (number_of r) ∷ refusal_text r ∷ [])

@@ -4,12 +4,8 @@ use Rattle.std.specs.List.{list_all, starts_with}
 use Rattle.std.specs.Str.{bytes_eq}
 use Rattle.percent_encoding.specs.Percent.{percent_decode}
 use Rattle.tm_reply.specs.Escapes.{printed_word}
-use Rattle.tm_reply.specs.Replies.{IsReplyText}
+use Rattle.tm_reply.specs.Replies.{reply_text}
 use Rattle.tm_reply.specs.declared.reply.Reply.{Reply}
-
--- a reply has one text
-abbrev pub OneText : Type 0
-OneText = (reply : Reply) (a b : List ℕ) → IsReplyText reply a → IsReplyText reply b → a ≡ b
 
 -- no byte of the line ends it
 abbrev pub is_unbroken : List ℕ → Bool
@@ -39,12 +35,12 @@ pub record ClosesOnce (text : List ℕ) : Type 0 where
 
 -- a reply's text ends with the first line that closes a reply
 abbrev pub EachTextClosesOnce : Type 0
-EachTextClosesOnce = (reply : Reply) (text : List ℕ) → IsReplyText reply text → ClosesOnce text
+EachTextClosesOnce = (reply : Reply) → ClosesOnce (reply_text reply)
 
--- Where a text follows on another, only one reply's text stands first.
+-- where texts follow one another, only one reply's text stands first
 abbrev pub TextsSplitInOneWay : Type 0
 TextsSplitInOneWay =
-    (r s : Reply) (a b x y : List ℕ) → IsReplyText r a → IsReplyText s b → a ++ x ≡ b ++ y → (a ≡ b) × (x ≡ y)
+    (r s : Reply) (x y : List ℕ) → reply_text r ++ x ≡ reply_text s ++ y → (reply_text r ≡ reply_text s) × (x ≡ y)
 
 -- a printed word decodes to its bytes
 abbrev pub WordsDecode : Type 0

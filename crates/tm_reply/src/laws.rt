@@ -1,10 +1,5 @@
 //! Laws of the texts of replies.
-ghost use Rattle.tm_reply.specs.ReplyLaws.{OneText, EachTextClosesOnce, TextsSplitInOneWay, WordsDecode};
-
-/// A reply has one text.
-pub fn one_text()
-    ensures { OneText }
-{}
+ghost use Rattle.tm_reply.specs.ReplyLaws.{EachTextClosesOnce, TextsSplitInOneWay, WordsDecode};
 
 /// A reply's text is whole lines, of which the last is `ok` or begins with the word `refused`, and
 /// no other does.

@@ -1,14 +1,14 @@
 //! The closing line of a reply.
-ghost use Rattle.std.specs.Prelude.{IfOk, string_bytes};
-ghost use Rattle.tm_reply.specs.Closings.{IsRefusalText, IsClosing};
+ghost use Rattle.std.specs.Prelude.{◌≡◌, IfOk, string_bytes};
+ghost use Rattle.tm_reply.specs.Closings.{refusal_text, closing_text};
 
 use std::alloc::{AllocError, Global};
 use tm_base::Refused;
 
 // A refusal's name, and the values that it shows.
-#[tactic(auto, unfolding(crate::specs::Closings::IsRefusalText))]
+#[tactic(auto, unfolding(crate::specs::Closings::refusal_text))]
 fn print_refusal(alloc: Global, refused: &Refused) -> Result<String, AllocError>
-    ensures { IfOk result (λ text. IsRefusalText refused.now (string_bytes text)) }
+    ensures { IfOk result (λ text. string_bytes text ≡ refusal_text refused.now) }
 {
     match refused {
         Refused::NoVolume => String::from_str(alloc, "NoVolume"),
@@ -50,9 +50,9 @@ fn print_refusal(alloc: Global, refused: &Refused) -> Result<String, AllocError>
 }
 
 /// The closing line: `ok`, or `refused NUMBER TEXT`.
-#[tactic(auto, unfolding(crate::specs::Closings::IsClosing))]
+#[tactic(auto, unfolding(crate::specs::Closings::closing_text))]
 pub fn print_closing(alloc: Global, refused: &Option<Refused>) -> Result<String, AllocError>
-    ensures { IfOk result (λ text. IsClosing refused.now (string_bytes text)) }
+    ensures { IfOk result (λ text. string_bytes text ≡ closing_text refused.now) }
 {
     match refused {
         None => String::from_str(alloc, "ok\n"),

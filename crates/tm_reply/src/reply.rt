@@ -1,6 +1,6 @@
 //! Replies and their texts.
-ghost use Rattle.std.specs.Prelude.{IfOk};
-ghost use Rattle.tm_reply.specs.Replies.{IsReplyText};
+ghost use Rattle.std.specs.Prelude.{◌≡◌, IfOk};
+ghost use Rattle.tm_reply.specs.Replies.{reply_text};
 
 use crate::refusal::print_closing;
 use crate::row::ReplyRow;
@@ -65,7 +65,7 @@ pub struct Reply {
 /// The text of a reply: its data lines and a closing line, each with its end; only want of memory
 /// can refuse it (`docs/SCRIPT.md`, "Replies").
 pub fn print(alloc: Global, reply: &Reply) -> Result<Bytes, AllocError>
-    ensures { IfOk result (λ text. IsReplyText reply.now text) }
+    ensures { IfOk result (λ text. text ≡ reply_text reply.now) }
 {
     let mut text = String::new(alloc);
     for row in reply.rows.as_slice() {

@@ -1,6 +1,6 @@
 //! The data lines of replies.
 ghost use Rattle.std.specs.Prelude.{◌≡◌, ℕ, IfOk, string_bytes};
-ghost use Rattle.tm_reply.specs.Rows.{IsRowText, machine_path, IsSnapshotPath, IsInProgressName};
+ghost use Rattle.tm_reply.specs.Rows.{row_text, machine_path, snapshot_path, in_progress_name};
 
 use crate::words::{encode, encode_path, print_id, print_mode};
 use std::alloc::{AllocError, Global};
@@ -182,12 +182,12 @@ pub enum ReplyRow {
 }
 
 impl Attributes {
-    ghost use Rattle.tm_reply.specs.Rows.{IsAttributesText};
+    ghost use Rattle.tm_reply.specs.Rows.{attributes_text};
 
     // MODE UID GID DATE E.
-    #[tactic(auto, unfolding(crate::specs::Rows::IsAttributesText))]
+    #[tactic(auto, unfolding(crate::specs::Rows::attributes_text))]
     fn print(&self, alloc: Global) -> Result<String, AllocError>
-        ensures { IfOk result (λ text. IsAttributesText self.now (string_bytes text)) }
+        ensures { IfOk result (λ text. string_bytes text ≡ attributes_text self.now) }
     {
         let mode = print_mode(alloc, self.mode)?;
         let date = self.modified.print(alloc)?;
@@ -239,9 +239,9 @@ fn print_machine_path(alloc: Global, machine: &Name) -> Result<String, AllocErro
 }
 
 // The path of a snapshot.
-#[tactic(auto, unfolding(crate::specs::Rows::IsSnapshotPath))]
+#[tactic(auto, unfolding(crate::specs::Rows::snapshot_path))]
 fn print_snapshot_path(alloc: Global, machine: &Name, date: Moment) -> Result<String, AllocError>
-    ensures { IfOk result (λ text. IsSnapshotPath machine.now date (string_bytes text)) }
+    ensures { IfOk result (λ text. string_bytes text ≡ snapshot_path machine.now date) }
 {
     let machine = print_machine_path(alloc, machine)?;
     let date = date.print(alloc)?;
@@ -249,20 +249,20 @@ fn print_snapshot_path(alloc: Global, machine: &Name, date: Moment) -> Result<St
 }
 
 // The name of a snapshot that is not finished.
-#[tactic(auto, unfolding(crate::specs::Rows::IsInProgressName))]
+#[tactic(auto, unfolding(crate::specs::Rows::in_progress_name))]
 fn print_in_progress(alloc: Global, date: Moment) -> Result<String, AllocError>
-    ensures { IfOk result (λ text. IsInProgressName date (string_bytes text)) }
+    ensures { IfOk result (λ text. string_bytes text ≡ in_progress_name date) }
 {
     let date = date.print(alloc)?;
     format!(in alloc; "{date}.inProgress")
 }
 
 impl ReplyRow {
-    ghost use Rattle.tm_reply.specs.Rows.{IsRowText};
+    ghost use Rattle.tm_reply.specs.Rows.{row_text};
 
     /// The text of the line, with its end.
     pub fn print(&self, alloc: Global) -> Result<String, AllocError>
-        ensures { IfOk result (λ text. IsRowText self.now (string_bytes text)) }
+        ensures { IfOk result (λ text. string_bytes text ≡ row_text self.now) }
     {
         match self {
             ReplyRow::Folder { attributes, name } => {
@@ -374,7 +374,7 @@ impl ReplyRow {
 
 // `extra NAME VALUE`, or `extra NAME` where the value is empty.
 fn print_extra(alloc: Global, name: &Name, value: &Bytes) -> Result<String, AllocError>
-    ensures { IfOk result (λ text. IsRowText (ReplyRow.Extra name.now value.now) (string_bytes text)) }
+    ensures { IfOk result (λ text. string_bytes text ≡ row_text (ReplyRow.Extra name.now value.now)) }
 {
     let name = encode(alloc, name.as_bytes())?;
     if value.as_slice().is_empty() {
@@ -386,7 +386,7 @@ fn print_extra(alloc: Global, name: &Name, value: &Bytes) -> Result<String, Allo
 
 // `bytes LENGTH WORD`, or `bytes 0` where there is none.
 fn print_contents(alloc: Global, bytes: &Bytes) -> Result<String, AllocError>
-    ensures { IfOk result (λ text. IsRowText (ReplyRow.Contents bytes.now) (string_bytes text)) }
+    ensures { IfOk result (λ text. string_bytes text ≡ row_text (ReplyRow.Contents bytes.now)) }
 {
     if bytes.as_slice().is_empty() {
         return String::from_str(alloc, "bytes 0\n");
@@ -405,7 +405,7 @@ fn print_df(
     stored: u64,
     snapshots: u64,
 ) -> Result<String, AllocError>
-    ensures { IfOk result (λ text. IsRowText (ReplyRow.Df blocks free nodes stored snapshots) (string_bytes text)) }
+    ensures { IfOk result (λ text. string_bytes text ≡ row_text (ReplyRow.Df blocks free nodes stored snapshots)) }
 {
     format!(in alloc;
         "df blocks {blocks} free {free} nodes {nodes} stored {stored} snapshots {snapshots}\n"

@@ -158,17 +158,17 @@ fn snapshots(rt: HostRuntime) -> Result<(), Fail> {
     row_is(
         &rt,
         alloc,
-        ReplyRow::Machine(mac.copy()?),
+        ReplyRow::Machine(mac.clone()?),
         b"machine My%20Mac",
     )?;
     row_is(
         &rt,
         alloc,
-        ReplyRow::MachineDirectory(mac.copy()?),
+        ReplyRow::MachineDirectory(mac.clone()?),
         b"/Backups.backupdb/My%20Mac",
     )?;
     let row = ReplyRow::SnapshotPath {
-        machine: mac.copy()?,
+        machine: mac.clone()?,
         date,
     };
     row_is(

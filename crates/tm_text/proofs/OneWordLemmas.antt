@@ -1,6 +1,7 @@
 -- A word has one meaning.
 use Rattle.std.proofs.Common.{length, arith, ◌≡◌, ℕ, List, [], ◌∷◌, refl, sym, ap, ap₂, ◌∙◌, subst, codes}
-use Rattle.tm_base.proofs.MomentLemmas.{names_one, length-text_of}
+use Rattle.tm_base.specs.Days.{moment_text}
+use Rattle.tm_base.proofs.DayLemmas.{moment_text_one}
 use Rattle.tm_text.specs.Words.{IsNameWord, IsText, IsValue, IsNumber, IsEvents, IsSteps, IsMode, IsDate, IsId, AreNames, IsPath, IsWhich, IsStorePathParts, IsStorePath, IsItem, IsSnapshot, IsStored, IsTarget, IsOwner}
 use Rattle.tm_text.specs.declared.place.StorePath.{StorePath}
 use Rattle.tm_text.specs.declared.place.StorePath.TheVariants as store_path
@@ -46,7 +47,7 @@ mode_one = record { one = λ w x y p q. p.2 ∙ sym q.2 }
 
 pub date_one : IsOne IsDate
 unfolding IsDate
-date_one = record { one = λ w x y p q. names_one w x y p q }
+date_one = record { one = λ w x y p q. moment_text_one x y p.0 q.0 (sym p.1 ∙ q.1) }
 
 pub id_one : IsOne IsId
 unfolding IsId
@@ -66,9 +67,13 @@ path_one = record { one = λ w x y p q. names_are _ x y p.1 q.1 }
 
 -- the places of a store
 
+length-moment_text : (n : ℕ) → length (moment_text n) ≡ 17
+unfolding moment_text
+length-moment_text n = refl
+
 latest_is_no_date : (m : ℕ) → IsDate (codes "Latest") m → ⊥
 unfolding IsDate
-latest_is_no_date m names = omega (arith, ap length names.written, length-text_of names.at)
+latest_is_no_date m is = omega (arith, ap length is.1, length-moment_text m)
 
 which_is : (w : List ℕ) (x y : Which) → IsWhich w x → IsWhich w y → x ≡ y
 unfolding IsWhich

@@ -6,7 +6,7 @@ use Rattle.std.specs.Str.Parse.{IsNumeral, digits_value}
 use Rattle.std.specs.Int.{w128, from_be_bytes}
 use Rattle.percent_encoding.specs.Percent.{percent_decode}
 use Rattle.uuid.specs.Text.{parsed}
-use Rattle.tm_base.specs.Moments.{Names}
+use Rattle.tm_base.specs.Days.{moment_text, last_moment}
 use Rattle.tm_base.specs.IsName.{IsName}
 use Rattle.tm_text.specs.Pieces.{pieces}
 use Rattle.tm_text.specs.declared.place.StorePath.{StorePath}
@@ -46,9 +46,9 @@ IsSteps word n = IsNumber word n × (1 ≤ n)
 unfoldable pub IsMode : List ℕ → ℕ → Type 0
 IsMode word n = IsNumeral 8 word × (length word ≤ 4) × (n ≡ digits_value 8 word)
 
--- DATE
+-- DATE: the text of a moment
 unfoldable pub IsDate : List ℕ → ℕ → Type 0
-IsDate word moment = Names word moment
+IsDate word moment = (moment ≤ last_moment) × (word ≡ moment_text moment)
 
 -- ID, in any of its four forms
 unfoldable pub IsId : List ℕ → ℕ → Type 0

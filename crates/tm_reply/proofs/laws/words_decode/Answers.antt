@@ -1,4 +1,3 @@
-use Rattle.tm_reply.proofs.LineLemmas.{unbroken_id}
 use Rattle.tm_reply.proofs.EscapeLemmas.{percent_decode-printed_word}
 use Rattle.tm_reply.proofs.laws.words_decode.Goals as goal
 
