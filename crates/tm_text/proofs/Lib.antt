@@ -2,3 +2,4 @@ pub mod WordLemmas
 pub mod OneWordLemmas
 pub mod OneMeaningLemmas
 pub mod ScriptLemmas
+pub mod PrintedLemmas

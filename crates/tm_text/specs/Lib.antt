@@ -6,3 +6,4 @@ pub mod Verbs
 pub mod Lines
 pub mod Script
 pub mod ScriptLaws
+pub mod ReadingLaws

@@ -1,4 +1,5 @@
 //! Laws of the script language.
+ghost use Rattle.tm_text.specs.ReadingLaws.{PrintedNamesRead, PrintedPathsRead, PrintedIdsRead, PrintedSnapshotsRead};
 ghost use Rattle.tm_text.specs.ScriptLaws.{OneMeaning, BadIsOutside, OneFirstBadLine};
 
 /// A script is one list of lines at most.
@@ -14,4 +15,24 @@ pub fn bad_is_outside()
 /// A script has one first bad line at most.
 pub fn one_first_bad_line()
     ensures { OneFirstBadLine }
+{}
+
+/// A printed name reads as that name.
+pub fn printed_names_read()
+    ensures { PrintedNamesRead }
+{}
+
+/// A printed path reads as that path.
+pub fn printed_paths_read()
+    ensures { PrintedPathsRead }
+{}
+
+/// A printed id reads as that id.
+pub fn printed_ids_read()
+    ensures { PrintedIdsRead }
+{}
+
+/// The printed path of a snapshot reads as the store path of that snapshot.
+pub fn printed_snapshots_read()
+    ensures { PrintedSnapshotsRead }
 {}

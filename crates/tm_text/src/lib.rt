@@ -18,7 +18,13 @@ mod tmutil;
 mod verb;
 mod words;
 
-pub use laws::{bad_is_outside, one_first_bad_line, one_meaning};
+pub use laws::{
+    bad_is_outside, one_first_bad_line, one_meaning, printed_ids_read, printed_names_read,
+    printed_paths_read, printed_snapshots_read,
+};
 pub use line::{Line, Lines};
 pub use place::{ItemAt, SnapshotAt, StorePath, Stored, Which};
 pub use script::{ParseError, parse};
+
+#[cfg(test)]
+mod tests;
