@@ -3,3 +3,4 @@ pub mod OneWordLemmas
 pub mod OneMeaningLemmas
 pub mod ScriptLemmas
 pub mod PrintedLemmas
+pub mod BoundsLemmas

@@ -1,5 +1,5 @@
 -- A script has one meaning.
-use Rattle.std.proofs.Common.{suc, length, arith, ◌⊎◌, inl, inr, ◌≡◌, ℕ, if◌then◌else◌, List, [], ◌∷◌, ◌++◌, Option, Some, None, refl, true≢false, sym, ap, ap₂, ◌∙◌, subst, codes}
+use Rattle.std.proofs.Common.{suc, ◌+◌, length, arith, ◌⊎◌, inl, inr, ◌≡◌, ℕ, if◌then◌else◌, List, [], ◌∷◌, ◌++◌, Option, Some, None, refl, true≢false, sym, ap, ap₂, ◌∙◌, subst, codes}
 use Rattle.std.specs.Str.{bytes_eq}
 use Rattle.tm_text.specs.Words.{IsPath}
 use Rattle.tm_text.proofs.OneWordLemmas.{IsOne, same_word, name_one, text_one, value_one, number_one, events_one, steps_one, mode_one, date_one, id_one, path_one, store_path_one, item_one, snapshot_one, stored_one, target_one, owner_one}
@@ -16,7 +16,7 @@ use Rattle.tm_text.specs.declared.fsevents.FsEventsVerb.{FsEventsVerb}
 use Rattle.tm_text.specs.declared.fsevents.FsEventsVerb.TheVariants as fsevents
 use Rattle.tm_text.specs.declared.store.StoreVerb.{StoreVerb}
 use Rattle.tm_text.specs.declared.store.StoreVerb.TheVariants as store
-use Rattle.tm_text.specs.Script.{Spell, no_line, skipped, spelled, IsBad}
+use Rattle.tm_text.specs.Script.{Spell, no_line, skipped, spelled, IsBad, IsFirstBad, IsScript}
 use Rattle.tm_text.specs.declared.verb.Verb.{Verb}
 use Rattle.tm_text.specs.declared.verb.Verb.TheVariants as verb
 use Rattle.tm_text.specs.declared.line.Line.{Line}
@@ -269,7 +269,7 @@ spell_one (w ∷ words) (l ∷ x) (m ∷ y) (spelled s is p) (spelled t is_too q
     ap₂ (λ (a : Line) (b : List Line). a ∷ b) (line_one w l m is is_too) (spell_one words x y p q)
 
 -- a script with a bad line is no list of lines
-pub bad_is_no_script : (before : List (List (List ℕ))) (bad : List (List ℕ)) (after : List (List (List ℕ))) (lines : List Line)
+bad_is_no_script : (before : List (List (List ℕ))) (bad : List (List ℕ)) (after : List (List (List ℕ))) (lines : List Line)
     → IsBad bad → Spell (before ++ bad ∷ after) lines → ⊥
 bad_is_no_script [] bad after lines b (skipped s p) = true≢false (sym s ∙ b.kept)
 bad_is_no_script [] bad after (l ∷ lines) b (spelled s is p) = b.unread l is
@@ -288,7 +288,7 @@ tail_spelled words more lines (skipped s p) = (lines, p)
 tail_spelled words more (l ∷ lines) (spelled s is p) = (lines, p)
 
 -- the first bad line of a script is one
-pub same_first_bad : (before more : List (List (List ℕ))) (bad worse : List (List ℕ)) (after rest : List (List (List ℕ))) (x y : List Line)
+same_first_bad : (before more : List (List (List ℕ))) (bad worse : List (List ℕ)) (after rest : List (List (List ℕ))) (x y : List Line)
     → Spell before x → Spell more y → IsBad bad → IsBad worse → before ++ bad ∷ after ≡ more ++ worse ∷ rest
     → length before ≡ length more
 same_first_bad [] [] bad worse after rest x y p q b w e = refl
@@ -301,3 +301,16 @@ same_first_bad (m ∷ before) (n ∷ more) bad worse after rest x y p q b w e =
     let p_tail = tail_spelled m before x p in
     let q_tail = tail_spelled n more y q in
     ap suc (same_first_bad before more bad worse after rest p_tail.0 q_tail.0 p_tail.1 q_tail.1 b w tails)
+
+-- a script with a first bad line is no list of lines
+pub first_bad_outside : (script : List ℕ) (n : ℕ) (lines : List Line) → IsFirstBad script n → IsScript script lines → ⊥
+first_bad_outside script n lines b p =
+    bad_is_no_script b.before b.bad b.after lines b.is_bad (subst (λ (w : List (List (List ℕ))). Spell w lines) b.lines p)
+
+-- a script has one first bad line at most
+pub first_bad_one : (script : List ℕ) (m n : ℕ) → IsFirstBad script m → IsFirstBad script n → m ≡ n
+first_bad_one script m n p q =
+    let same =
+        same_first_bad p.before q.before p.bad q.bad p.after q.after p.good q.good p.spelled q.spelled p.is_bad q.is_bad (sym p.lines ∙ q.lines)
+    in
+    p.number ∙ ap (λ (k : ℕ). k + 1) same ∙ sym q.number

@@ -287,5 +287,8 @@ pub id_reads : (id : ℕ) → id < 2 ^ 128 → IsId (printed_id id) id
 unfolding IsId printed_id
 id_reads id small =
     let bytes = to_be_bytes w128 id in
-    ap (option_map (from_be_bytes w128)) (sym (parses_hyphenated lower bytes (inl refl) refl (high_bytes 16 id).all))
-    ∙ ap Some (from_be_bytes-to_be_bytes_16 id small)
+    (
+      small,
+      ap (option_map (from_be_bytes w128)) (sym (parses_hyphenated lower bytes (inl refl) refl (high_bytes 16 id).all))
+      ∙ ap Some (from_be_bytes-to_be_bytes_16 id small),
+    )

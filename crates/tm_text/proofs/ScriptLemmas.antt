@@ -3,7 +3,7 @@ use Rattle.tm_text.proofs.WordLemmas.{length_left}
 use Rattle.std.proofs.Common.{Bool, Option, Some, None, Bor, IfSome, ◌<◌, ◌≤◌, ◌≡◌, ℕ, ◌+◌, List, [], ◌∷◌, ◌++◌, length, map, true, false, refl, sym, ap, ◌∙◌, arith, append_assoc, append-nil, subst, length-append}
 use Rattle.tm_text.specs.Pieces.{lines_of, words_of}
 use Rattle.tm_text.specs.Lines.{IsLine}
-use Rattle.tm_text.specs.Script.{Spell, no_line, skipped, spelled, is_skipped, SpellsOne, IsFirstBad, IsBad}
+use Rattle.tm_text.specs.Script.{Spell, no_line, skipped, spelled, is_skipped, SpellsOne, IsFirstBad, IsBad, IsScript}
 use Rattle.tm_text.specs.declared.line.Line.{Line}
 
 -- So many lines are read and spell these; those in `left` are still to come.
@@ -63,3 +63,7 @@ bad_from words bad =
 pub left_shorter : (rest : Option (Bor (List ℕ))) (text : List ℕ) → IfSome rest (λ r. length r.now < length text) → length_left rest ≤ length text
 left_shorter None text h = omega arith
 left_shorter (Some r) text h = omega (arith, h)
+
+-- where no line is left, the script is read
+pub read_all : (script : List ℕ) (number : ℕ) (good : List Line) → IsRead script [] number good → IsScript script good
+read_all script number good r = subst (λ (w : List (List (List ℕ))). Spell w good) (sym (r.lines ∙ append-nil r.before)) r.spelled

@@ -7,3 +7,4 @@ pub mod Lines
 pub mod Script
 pub mod ScriptLaws
 pub mod ReadingLaws
+pub mod Bounds

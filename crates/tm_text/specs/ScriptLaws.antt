@@ -1,6 +1,7 @@
 -- What the grammar of scripts keeps.
-use Rattle.std.specs.Prelude.{◌≡◌, ℕ, List}
+use Rattle.std.specs.Prelude.{◌≡◌, ℕ, ◌<◌, List, [], ◌∷◌, All}
 use Rattle.tm_text.specs.Script.{IsScript, IsFirstBad}
+use Rattle.tm_text.specs.Bounds.{IsValidLine}
 use Rattle.tm_text.specs.declared.line.Line.{Line}
 
 -- a script is one list of lines at most
@@ -14,3 +15,7 @@ BadIsOutside = (script : List ℕ) (n : ℕ) (lines : List Line) → IsFirstBad 
 -- a script has one first bad line at most
 abbrev pub OneFirstBadLine : Type 0
 OneFirstBadLine = (script : List ℕ) (m n : ℕ) → IsFirstBad script m → IsFirstBad script n → m ≡ n
+
+-- each value of each line of a script is within its bounds
+abbrev pub LinesAreValid : Type 0
+LinesAreValid = (script : List ℕ) (lines : List Line) → All (λ b. b < 256) script → IsScript script lines → All IsValidLine lines

@@ -52,7 +52,7 @@ IsDate word moment = (moment ≤ last_moment) × (word ≡ moment_text moment)
 
 -- ID, in any of its four forms
 unfoldable pub IsId : List ℕ → ℕ → Type 0
-IsId word id = option_map (from_be_bytes w128) (parsed word) ≡ Some id
+IsId word id = (id < 2 ^ 128) × (option_map (from_be_bytes w128) (parsed word) ≡ Some id)
 
 -- the parts of a path spell its names
 abbrev pub AreNames : List (List ℕ) → List (List ℕ) → Type 0

@@ -1,6 +1,6 @@
 //! Laws of the script language.
 ghost use Rattle.tm_text.specs.ReadingLaws.{PrintedNamesRead, PrintedPathsRead, PrintedIdsRead, PrintedSnapshotsRead};
-ghost use Rattle.tm_text.specs.ScriptLaws.{OneMeaning, BadIsOutside, OneFirstBadLine};
+ghost use Rattle.tm_text.specs.ScriptLaws.{OneMeaning, BadIsOutside, OneFirstBadLine, LinesAreValid};
 
 /// A script is one list of lines at most.
 pub fn one_meaning()
@@ -15,6 +15,11 @@ pub fn bad_is_outside()
 /// A script has one first bad line at most.
 pub fn one_first_bad_line()
     ensures { OneFirstBadLine }
+{}
+
+/// The values of a script's lines are within the bounds of their kinds of word.
+pub fn lines_are_valid()
+    ensures { LinesAreValid }
 {}
 
 /// A printed name reads as that name.

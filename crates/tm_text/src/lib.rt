@@ -19,8 +19,8 @@ mod verb;
 mod words;
 
 pub use laws::{
-    bad_is_outside, one_first_bad_line, one_meaning, printed_ids_read, printed_names_read,
-    printed_paths_read, printed_snapshots_read,
+    bad_is_outside, lines_are_valid, one_first_bad_line, one_meaning, printed_ids_read,
+    printed_names_read, printed_paths_read, printed_snapshots_read,
 };
 pub use line::{Line, Lines};
 pub use place::{ItemAt, SnapshotAt, StorePath, Stored, Which};

@@ -1,5 +1,6 @@
 //! Scripts.
-ghost use Rattle.std.specs.Prelude.{◌≡◌, ℕ, List, IfOk, IsErrOf, IsOkUnless, ◌⊎◌};
+ghost use Rattle.std.specs.Prelude.{◌≡◌, ℕ, List, All, IfOk, IsErrOf, IsOkUnless, MatchResult, ◌⊎◌};
+ghost use Rattle.tm_text.specs.Bounds.{IsValidLine};
 ghost use Rattle.tm_text.specs.Lines.{IsLine};
 ghost use Rattle.tm_text.specs.Pieces.{texts, words_of};
 ghost use Rattle.tm_text.specs.Reads.{Reads};
@@ -68,7 +69,11 @@ fn read_line(alloc: Global, text: &[u8]) -> Result<Option<Line>, LineError>
 /// grammar (`docs/SCRIPT.md`). It takes time linear in the script's length, which has no bound here.
 pub fn parse(alloc: Global, script: &[u8]) -> Result<Lines, ParseError>
     ensures ok { IfOk result (λ lines. IsScript script.now lines) }
+    ensures valid { IfOk result (λ lines. All IsValidLine lines) }
     ensures bad { (n : ℕ) → IsErrOf result (ParseError.BadLine n) → IsFirstBad script.now n }
+    ensures reads { (lines : List Line) → IsScript script.now lines → IsOkUnless result ParseError.Memory }
+    ensures refuses { (n : ℕ) → IsFirstBad script.now n → MatchResult result (λ _. ⊥)
+        (λ e. (e ≡ ParseError.BadLine n) ⊎ (e ≡ ParseError.Memory)) }
 {
     let mut lines = Lines::new(alloc);
     let mut number: u64 = 0;

@@ -5,4 +5,4 @@ use Rattle.tm_text.proofs.words.id.Goals as goal
 
 pub returns-in-Err : goal.returns-in-Err
 unfolding IsId
-returns-in-Err c = λ id. no_value _ _ (λ read. true≢false (sym (c.in-Err.ensures.ok.1 read))) id
+returns-in-Err c = λ id is. no_value _ _ (λ read. true≢false (sym (c.in-Err.ensures.ok.1 read))) id is.1
