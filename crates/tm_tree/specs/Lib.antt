@@ -10,3 +10,5 @@ pub mod Contents
 pub mod Refusing
 pub mod Changes
 pub mod States
+pub mod Making
+pub mod Lookups

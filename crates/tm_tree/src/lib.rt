@@ -12,7 +12,7 @@ mod record;
 mod rows;
 mod walk;
 
-pub use attrs::{Attrs, Extras};
+pub use attrs::{Attrs, Extras, is_exclusion};
 pub use change::Change;
 pub use item::{Item, Labelled};
 pub use laws::{copy_is_whole, copy_of_part, copy_over_same};

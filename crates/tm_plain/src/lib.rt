@@ -1,0 +1,16 @@
+//! The plain volume and the plain store: whole trees in memory (`docs/DEFINITIONS.md`).
+#![tactic(auto)]
+
+mod effects;
+mod items;
+mod labelled;
+mod paths;
+mod refusals;
+mod touches;
+mod tree;
+mod view;
+mod volume;
+
+pub use labelled::LabelledTree;
+pub use tree::Tree;
+pub use volume::Volume;
