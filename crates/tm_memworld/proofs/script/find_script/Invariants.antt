@@ -1,0 +1,7 @@
+use Rattle.std.proofs.Common.{◌≡◌, take}
+use Rattle.std.specs.Option.{option_map}
+use Rattle.tm_memworld.specs.Script.{scripts_in, text_at}
+use Rattle.tm_memworld.proofs.script.find_script.Given as goal
+
+abbrev pub invariant-loop-i : goal.invariant-loop-i
+invariant-loop-i l = option_map (text_at l.scripts) l.found ≡ scripts_in (take l.i l.scripts) l.path
