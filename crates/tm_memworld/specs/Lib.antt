@@ -4,3 +4,8 @@ pub mod Faults
 pub mod Script
 pub mod Site
 pub mod Torn
+pub mod Sites
+pub mod Contents
+pub mod Change
+pub mod Devices
+pub mod Nothing

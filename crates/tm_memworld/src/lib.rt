@@ -3,6 +3,7 @@
 #![tactic(auto)]
 
 mod change;
+mod devices;
 
 mod error;
 mod faults;
