@@ -1,12 +1,14 @@
 -- The site that is attached at a side, and what is written there.
-use Rattle.std.proofs.Common.{◌≡◌, ℕ, ◌+◌, ◌<◌, ◌≤◌, List, length, get_or, set, Option, Some, None, refl, sym, ◌∙◌, ap, subst, arith}
+use Rattle.std.proofs.Common.{◌≡◌, ℕ, ◌+◌, ◌<◌, ◌≤◌, List, length, get_or, set, drop, Option, Some, None, refl, sym, ◌∙◌, ap, subst, arith}
 use Rattle.tm_world.specs.Disk.{Disk}
-use Rattle.tm_world.specs.Outside.{disk}
+use Rattle.tm_world.specs.Outside.{Outside, disk}
+use Rattle.tm_world.specs.Log.{Log, Steps}
 use Rattle.tm_world.specs.declared.world.Side.{Side}
 use Rattle.tm_memworld.specs.Site.{SiteView, disk_of, IsBy}
 use Rattle.tm_memworld.specs.Sites.{site_at, path_at, room_at, IsFirst, AreSmall, AreBy}
-use Rattle.tm_memworld.specs.Contents.{attached_at}
-use Rattle.tm_memworld.specs.Devices.{contents_of, outside, places_of}
+use Rattle.tm_memworld.specs.Contents.{Contents, attached_at}
+use Rattle.tm_memworld.specs.Change.{log_in}
+use Rattle.tm_memworld.specs.Devices.{contents_of, log_of, outside, places_of}
 use Rattle.tm_memworld.specs.declared.devices.Devices.{Devices}
 use Rattle.tm_memworld.proofs.Views.{first-set, small-set, by-set, room-set_same}
 use Rattle.tm_memworld.proofs.Going.{first_of, site_is, small_at, disk_is}
@@ -47,3 +49,9 @@ module _ (d : Devices) (side : Side) (i : ℕ) (at : Some i ≡ attached_at side
     -- the time of the last change of the site
     pub by-at : IsBy (length d.changes.items) s
     by-at = subst (IsBy (length d.changes.items)) (sym site-at) (d.by_now.each i)
+
+-- the clock of devices that hold this
+pub Steps-as : (d : Devices) (began : ℕ) (c : Contents) (old : Log) (after : Outside) → contents_of d ≡ c → d.began ≡ began → Steps old (log_in (drop began d.changes.items) c) after → Steps old (log_of d) after
+Steps-as d began c old after contents_is began_is steps =
+    subst (λ b. Steps old (log_in (drop b d.changes.items) (contents_of d)) after) (sym began_is)
+    (subst (λ e. Steps old (log_in (drop began d.changes.items) e) after) (sym contents_is) steps)

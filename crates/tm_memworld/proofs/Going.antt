@@ -71,7 +71,7 @@ by_settled s t time before settled times le by = record {
 }
 
 module _ (c : Contents) (began : ℕ) (changes : List Change) where
-  seen : view c ≡ now (log_in (drop began changes) c)
+  pub seen : view c ≡ now (log_in (drop began changes) c)
   seen = sym (now-log_in (drop began changes) c)
 
   -- the disk of a side is that of its site

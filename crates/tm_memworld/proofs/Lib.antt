@@ -5,3 +5,4 @@ pub mod Views
 pub mod Undo
 pub mod Going
 pub mod AtSide
+pub mod Attaching

@@ -1,6 +1,6 @@
 -- A list of sites, seen as what stands at each place.
 use Rattle.std.proofs.Common.{◌≡◌, ◌≢◌, inl, inr, ⊎_elim, ℕ, zero, suc, ◌+◌, ◌<◌, ◌≤◌, Bool, true, false, cond, List, [], ◌∷◌, ◌++◌, length, get_or, set, Option, Some, None, refl, sym, ◌∙◌, ap, subst, arith}
-use Rattle.std.proofs.lemmas.Bool.{cond-true, cond-false, cases_Bool, cases_eq}
+use Rattle.std.proofs.lemmas.Bool.{cond-true, cond-false, cases_Bool, cases_eq, cases_lt}
 use Rattle.std.proofs.lemmas.List.{get_or-set_same, get_or-set_other, length-set, get_or_append_left, length-append, get_or_at}
 use Rattle.std.proofs.lemmas.Slice.Eq.{bytes_eq-Decides}
 use Rattle.std.specs.Option.{option_map}
@@ -220,3 +220,32 @@ by-push [] t time by new = record { each = elim [ zero ↦ new | suc i ↦ blank
 by-push (s ∷ sites) t time by new =
     let rest = by-push sites t time (record { each = λ k. by.each (suc k) }) new in
     record { each = elim [ zero ↦ by.each 0 | suc i ↦ rest.each i ] }
+
+-- where no site has a path nothing stands, and there is no memory
+pub stands_nowhere : (sites : List SiteView) (p : List ℕ) → IsNowhere sites p → stands_in sites (Some p) ≡ nothing
+stands_nowhere [] p nowhere = refl
+stands_nowhere (s ∷ sites) p nowhere = cond-false _ (disk_of s) _ (nowhere.each 0 (omega arith)) ∙ stands_nowhere sites p (nowhere_rest s sites p nowhere)
+
+pub room_nowhere : (sites : List SiteView) (p : List ℕ) → IsNowhere sites p → room_at sites p ≡ 0
+room_nowhere [] p nowhere = refl
+room_nowhere (s ∷ sites) p nowhere = cond-false _ (length s.blocks) _ (nowhere.each 0 (omega arith)) ∙ room_nowhere sites p (nowhere_rest s sites p nowhere)
+
+-- two sites that are the first of one path are one site
+pub first_once : (sites : List SiteView) (i k : ℕ) → IsFirst sites i → IsFirst sites k → path_at sites i ≡ path_at sites k → i ≡ k
+first_once sites i k one two same =
+    let here : is_place (Some (path_at sites i)) (Some (path_at sites k)) ≡ true = subst (λ p. is_place (Some (path_at sites i)) (Some p) ≡ true) same (is_place-same (Some (path_at sites i))) in
+    let back : is_place (Some (path_at sites k)) (Some (path_at sites i)) ≡ true = subst (λ p. is_place (Some (path_at sites k)) (Some p) ≡ true) (sym same) (is_place-same (Some (path_at sites k))) in
+    ⊎_elim
+    (λ (below : i < k). let differ : is_place (Some (path_at sites i)) (Some (path_at sites k)) ≡ false = two.others i below in cc)
+    (λ (le : k ≤ i). ⊎_elim
+        (λ (above : k < i). let differ : is_place (Some (path_at sites k)) (Some (path_at sites i)) ≡ false = one.others k above in cc)
+        (λ (ge : i ≤ k). omega arith)
+        (cases_lt k i))
+    (cases_lt i k)
+
+-- a path that is noted without memory for an image
+pub room-named : (sites : List SiteView) (t : SiteView) (path : List ℕ) → IsNowhere sites t.path → length t.blocks ≡ 0 → room_at (sites ++ t ∷ []) path ≡ room_at sites path
+room-named sites t path nowhere none = room-push sites t path nowhere ∙ ⊎_elim
+    (λ (here : bytes_eq t.path path ≡ true). cond-true _ (length t.blocks) (room_at sites path) here ∙ none ∙ sym (room_nowhere sites t.path nowhere) ∙ ap (room_at sites) ((bytes_eq-Decides t.path path).0 here))
+    (λ (not : bytes_eq t.path path ≡ false). cond-false _ (length t.blocks) (room_at sites path) not)
+    (cases_Bool (bytes_eq t.path path))

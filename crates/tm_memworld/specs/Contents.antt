@@ -1,5 +1,5 @@
 -- All that is in memory at one moment, and what is outside then.
-use Rattle.std.specs.Prelude.{ℕ, List, Option}
+use Rattle.std.specs.Prelude.{ℕ, List, Option, Some}
 use Rattle.std.specs.Option.{option_map}
 use Rattle.tm_world.specs.Outside.{Outside}
 use Rattle.tm_world.specs.declared.world.Side.{Side}
@@ -40,3 +40,10 @@ attached_at Store c = c.store
 abbrev pub with_attached : Side → Option ℕ → Contents → Contents
 with_attached Volume site c = record c { volume = site }
 with_attached Store site c = record c { store = site }
+
+-- where a side is attached after one is, at this site
+abbrev pub attached_after : Side → Side → ℕ → Option ℕ → Option ℕ
+attached_after Volume Volume site was = Some site
+attached_after Volume Store site was = was
+attached_after Store Volume site was = was
+attached_after Store Store site was = Some site

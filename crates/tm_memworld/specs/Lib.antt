@@ -9,3 +9,4 @@ pub mod Contents
 pub mod Change
 pub mod Devices
 pub mod Nothing
+pub mod Putting

@@ -3,6 +3,7 @@ use Rattle.std.specs.Prelude.{◌≡◌, ◌<◌, ◌≤◌, ℕ, Bool, true, fa
 use Rattle.std.specs.Str.{bytes_eq}
 use Rattle.tm_world.specs.Disk.{Disk, nothing}
 use Rattle.tm_world.specs.Outside.{Place, is_place}
+use Rattle.tm_memworld.specs.Torn.{torn_disk}
 use Rattle.tm_memworld.specs.Site.{SiteView, blank, disk_of, IsBy}
 
 -- what stands at a place: the disk of the first site of that path
@@ -37,3 +38,15 @@ pub record AreSmall (sites : List SiteView) : Type 0 where
 -- no site was changed after this time
 pub record AreBy (time : ℕ) (sites : List SiteView) : Type 0 where
   pub each : (i : ℕ) → IsBy time (site_at sites i)
+
+-- a site after a stop at a time: its loose blocks are torn
+pub record IsTorn (torn : List ℕ) (time : ℕ) (old new : SiteView) : Type 0 where
+  pub path : new.path ≡ old.path
+  pub room : length new.blocks ≡ length old.blocks
+  pub by : IsBy time new
+  pub disk : disk_of new ≡ torn_disk torn (disk_of old)
+
+-- each site is torn
+pub record AreTorn (torn : List ℕ) (time : ℕ) (old new : List SiteView) : Type 0 where
+  pub long : length new ≡ length old
+  pub each : (i : ℕ) → i < length old → IsTorn torn time (site_at old i) (site_at new i)

@@ -4,7 +4,7 @@ mod calls;
 mod find;
 mod put;
 
-ghost use Rattle.std.specs.Prelude.{◌≡◌, ◌+◌, ◌≤◌, length, vec_len, vec_capacity};
+ghost use Rattle.std.specs.Prelude.{◌≡◌, ◌+◌, ◌<◌, ◌≤◌, length, vec_len, vec_capacity};
 ghost use Rattle.std.specs.Option.{ForSome};
 ghost use Rattle.tm_memworld.specs.Sites.{IsFirst, AreSmall, AreBy};
 
@@ -40,6 +40,7 @@ pub struct Devices {
     room: Room,
     ghost volume_first: { ForSome volume (λ i. IsFirst sites.items i) },
     ghost store_first: { ForSome store (λ i. IsFirst sites.items i) },
+    ghost script_in: { ForSome script (λ i. i < length scripts.items) },
     ghost small: { AreSmall sites.items },
     ghost by_now: { AreBy (length changes.items) sites.items },
     ghost begun: { began ≤ length changes.items },

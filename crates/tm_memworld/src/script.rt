@@ -1,7 +1,7 @@
 //! Scripts by path.
-ghost use Rattle.std.specs.Prelude.{◌≡◌, IfSome, IfNone, IfOk, slice_index_or, Some, None};
+ghost use Rattle.std.specs.Prelude.{◌≡◌, ◌<◌, length, IfSome, IfOk};
 ghost use Rattle.std.specs.Option.{option_map};
-ghost use Rattle.tm_memworld.specs.Script.{ScriptView, scripts_in, text_at};
+ghost use Rattle.tm_memworld.specs.Script.{scripts_in, text_at};
 
 use std::alloc::{AllocError, Global};
 use std::marker::Model;
@@ -49,7 +49,8 @@ impl Script {
 
 /// The script that stands at a path: the last that was put there.
 pub fn find_script(scripts: &[Script], path: &[u8]) -> Option<usize>
-    ensures { option_map (text_at scripts.now) result ≡ scripts_in scripts.now path.now }
+    ensures text { option_map (text_at scripts.now) result ≡ scripts_in scripts.now path.now }
+    ensures within { IfSome result (λ i. i < length scripts.now) }
 {
     let mut found = None;
     for (i, script) in scripts.iter().enumerate() {

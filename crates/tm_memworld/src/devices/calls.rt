@@ -1,5 +1,6 @@
 //! The calls of the trait that do not attach.
 ghost use Rattle.std.specs.Prelude.{◌≡◌, ◌+◌, ◌^◌, ◌<◌, ◌≤◌, ◌++◌, length, min, take, drop};
+ghost use Rattle.std.specs.Option.{ForSome};
 ghost use Rattle.tm_world.specs.Disk.{written, synced};
 ghost use Rattle.tm_world.specs.Outside.{disk, put_disk, took, spoke};
 ghost use Rattle.tm_world.specs.Log.{Steps};
@@ -16,15 +17,16 @@ use crate::script::Script;
 
 // What is left of a script of which so many bytes were taken.
 fn rest(scripts: &[Script], script: Option<usize>, position: usize) -> &[u8]
+    requires { ForSome script (λ i. i < length scripts.now) }
     ensures left { result.now ≡ left_in scripts.now script position }
     ensures fits { position + length result.now < 2 ^ 64 }
 {
     match script {
-        Some(i) if i < scripts.len() => {
+        Some(i) => {
             let text = scripts[i].text();
             &text[position.min(text.len())..]
         }
-        _ => &[],
+        None => &[],
     }
 }
 
