@@ -6,3 +6,5 @@ pub mod Undo
 pub mod Going
 pub mod AtSide
 pub mod Attaching
+pub mod Opening
+pub mod Putting
