@@ -8,3 +8,4 @@ pub mod AtSide
 pub mod Attaching
 pub mod Opening
 pub mod Putting
+pub mod Tearing

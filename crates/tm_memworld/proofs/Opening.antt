@@ -1,15 +1,15 @@
 -- What stands at a path that is to be attached, and whether it can be.
-use Rattle.std.proofs.Common.{◌≡◌, ◌≢◌, ◌⊎◌, inl, inr, ⊎_elim, ℕ, ◌+◌, ◌<◌, ◌≤◌, Bool, true, false, cond, ltb, ◌||◌, IsTrue, List, length, get_or, Option, Some, None, refl, sym, ◌∙◌, ap, subst, rules, tests, arith}
+use Rattle.std.proofs.Common.{◌≡◌, ◌≢◌, ◌⊎◌, inl, inr, ⊎_elim, ℕ, ◌+◌, ◌<◌, ◌≤◌, Bool, true, false, cond, ltb, ◌||◌, IsTrue, List, [], ◌∷◌, length, get_or, Option, Some, None, refl, sym, ◌∙◌, ap, subst, rules, tests, arith}
 use Rattle.std.proofs.lemmas.Bool.{cond-true, cond-false, cases_Bool, false≢true, false_from_ne_true}
 use Rattle.std.specs.Option.{option_map, is_some}
 use Rattle.tm_world.specs.Disk.{Disk, nothing, zeros}
-use Rattle.tm_world.specs.Outside.{Outside, is_place, place, disk, put_at, with_place}
+use Rattle.tm_world.specs.Outside.{Outside, Place, is_place, place, disk, put_at, with_place}
 use Rattle.tm_world.specs.Log.{Log, now, Steps}
 use Rattle.tm_world.specs.Runs.{other}
 use Rattle.tm_world.specs.declared.world.Side.{Side}
 use Rattle.tm_world.proofs.Sides.{is_place-same, is_place-true, is_place-sym}
 use Rattle.tm_memworld.specs.Site.{SiteView, disk_in, disk_of}
-use Rattle.tm_memworld.specs.Sites.{site_at, path_at, room_at, IsFirst, IsNowhere}
+use Rattle.tm_memworld.specs.Sites.{stands_in, site_at, path_at, room_at, IsFirst, IsNowhere}
 use Rattle.tm_memworld.specs.Contents.{Contents, view, attached_at}
 use Rattle.tm_memworld.specs.Devices.{contents_of, outside, places_of, cannot_make, cannot_open}
 use Rattle.tm_memworld.specs.declared.devices.Devices.{Devices}
@@ -132,3 +132,30 @@ module _ (old new : Log) (side : Side) (path : List ℕ) (s : Outside) (steps : 
 
 pub stands-put_at : (path : List ℕ) (d : Disk) (s : Outside) → (put_at (Some path) d s).stands (Some path) ≡ d
 stands-put_at path d s = cond-true (is_place (Some path) (Some path)) d (s.stands (Some path)) (is_place-same (Some path))
+
+there_cases : (count : Option ℕ) (blocks : List (List ℕ)) (times : List ℕ) (settled : ℕ) → (disk_in count blocks times settled).there ≡ is_some count
+unfolding disk_in
+there_cases None blocks times settled = refl
+there_cases (Some n) blocks times settled = refl
+
+pub there-is_some : (s : SiteView) → (disk_of s).there ≡ is_some s.count
+there-is_some s = there_cases s.count s.blocks s.times s.settled
+
+nothing_cases : (count : Option ℕ) (blocks : List (List ℕ)) (times : List ℕ) (settled : ℕ) → (disk_in count blocks times settled).there ≡ false → disk_in count blocks times settled ≡ nothing
+unfolding disk_in
+nothing_cases None blocks times settled e = refl
+nothing_cases (Some n) blocks times settled e = cc
+
+cond_nothing : (b : Bool) (d e : Disk) → (d.there ≡ false → d ≡ nothing) → (e.there ≡ false → e ≡ nothing) → (cond b d e).there ≡ false → cond b d e ≡ nothing
+cond_nothing true d e first second h = first h
+cond_nothing false d e first second h = second h
+
+-- in memory nothing stands where no image does
+pub nothing_stands : (sites : List SiteView) (at : Place) → (stands_in sites at).there ≡ false → stands_in sites at ≡ nothing
+nothing_stands [] at e = refl
+nothing_stands (s ∷ sites) at e = cond_nothing (is_place (Some s.path) at) (disk_of s) (stands_in sites at) (nothing_cases s.count s.blocks s.times s.settled) (nothing_stands sites at) e
+
+pub nothing_outside : (d : Devices) (path : List ℕ) → ((outside d).stands (Some path)).there ≡ false → (outside d).stands (Some path) ≡ nothing
+nothing_outside d path e =
+    let is : (outside d).stands (Some path) ≡ stands_in d.sites.items (Some path) = ap (λ (s : Outside). s.stands (Some path)) (sym (seen (contents_of d) d.began d.changes.items)) in
+    is ∙ nothing_stands d.sites.items (Some path) (sym (ap (λ (e : Disk). e.there) is) ∙ e)

@@ -48,10 +48,8 @@ impl Devices {
         ensures places_err { OnErr result (places_of self.new ≡ places_of self.old) }
         ensures room { self.new.room ≡ self.old.room }
     {
-        if let Some(i) = find(&self.sites, path) {
-            if self.sites[i].count().is_some() {
-                return Ok(());
-            }
+        if self.stands(path) {
+            return Ok(());
         }
         let site = Site::blank(self.alloc, path, blocks)?;
         self.put_site(site)
@@ -79,6 +77,16 @@ impl Devices {
         tear_all(&mut self.sites, torn, self.changes.len());
         self.said.clear();
         self.began = self.changes.len();
+    }
+
+    // Whether an image stands at a path.
+    fn stands(&self, path: &[u8]) -> bool
+        ensures { result ≡ ((outside self.now).stands (Some path.now)).there }
+    {
+        match find(&self.sites, path) {
+            Some(i) => self.sites[i].count().is_some(),
+            None => false,
+        }
     }
 
     // A site takes the place of the one of its path.

@@ -10,6 +10,6 @@ pub returns-clause-ok : goal.returns-clause-ok
 returns-clause-ok c =
     let d = c.args.self.now in
     let script : ScriptView = record { path = c.args.path.now; text = c.args.text.now } in
-    let put : c.in_ok-push.new.self.items ≡ d.scripts.items ++ script ∷ [] = search rules in
+    let put : c.push.new.self.items ≡ d.scripts.items ++ script ∷ [] = search rules in
     now-any d.changes.items _ _ ∙ ap (λ (xs : List ScriptView). view (record (contents_of d) { scripts = xs })) put ∙ view-script (contents_of d) c.args.path.now c.args.text.now d.script_in
     ∙ ap (with_script c.args.path.now c.args.text.now) (sym (now-any d.changes.items d.began (contents_of d)))
