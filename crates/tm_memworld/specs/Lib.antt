@@ -1,0 +1,12 @@
+pub mod Room
+pub mod Plan
+pub mod Faults
+pub mod Script
+pub mod Site
+pub mod Torn
+pub mod Sites
+pub mod Contents
+pub mod Change
+pub mod Devices
+pub mod Nothing
+pub mod Putting

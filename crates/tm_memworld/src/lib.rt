@@ -1,0 +1,18 @@
+//! The outside in memory: images and scripts by path, calls that fail on demand, and a record from
+//! which what was outside at each moment can be told.
+#![tactic(auto)]
+
+mod change;
+mod devices;
+
+mod error;
+mod faults;
+mod plan;
+mod room;
+mod script;
+mod site;
+
+
+
+pub use error::Memory;
+
