@@ -1,1 +1,2 @@
 pub mod ItemsOf
+pub mod Entries

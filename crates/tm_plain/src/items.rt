@@ -1,8 +1,9 @@
 // The walk to an item and a folder's listing, over maps whose values hold an item each.
-ghost use Rattle.std.specs.Prelude.{◌≡◌, IfOk};
+ghost use Rattle.std.specs.Prelude.{◌≡◌, IfOk, map};
 ghost use Rattle.std.specs.Option.{option_copied};
+ghost use Rattle.tm_plain.specs.Entries.{named};
 ghost use Rattle.tm_plain.specs.ItemsOf.{items_of};
-ghost use Rattle.tm_tree.specs.Listings.{listing, list_rows};
+ghost use Rattle.tm_tree.specs.Listings.{listing, list_rows, entries_of};
 ghost use Rattle.tm_tree.specs.Trees.{item_at};
 ghost use Rattle.tm_tree.specs.Walks.{walk, Finds};
 ghost use Rattle.tm_tree.specs.declared.item.Item.{Item as item};
@@ -10,8 +11,17 @@ ghost use Rattle.tm_tree.specs.declared.item.Item.{Item as item};
 use crate::paths::entry_name;
 use std::alloc::{AllocError, Global};
 use std::collections::BTreeMap;
-use tm_base::{LineFault, Path, Refused};
+use tm_base::{LineFault, Name, Path, Refused};
 use tm_tree::{Item, Labelled, ListRow, ListRows, Listing};
+
+/// An entry of a folder.
+#[derive(Clone, Copy)]
+pub struct Entry<'a> {
+    /// The name under which it stands.
+    pub name: &'a Name,
+    /// What stands there.
+    pub item: &'a Item,
+}
 
 // A value that holds an item.
 pub(crate) trait HasItem {
@@ -108,4 +118,24 @@ fn list_rows<V: HasItem>(
         }
     }
     Ok(ListRows::of(rows))
+}
+
+// The entries of the folder at a path, by rising name.
+pub(crate) fn entries<'a, V: HasItem>(
+    alloc: Global,
+    items: &'a BTreeMap<Path, V>,
+    path: &Path,
+) -> Result<Vec<Entry<'a>>, AllocError>
+    ensures { IfOk result (λ found. map named found.items ≡ entries_of (items_of V.item_of items.now.entries) path.now) }
+{
+    let mut entries = Vec::new(alloc);
+    for (at, value) in items {
+        if let Some(name) = entry_name(path, at) {
+            entries.push(Entry {
+                name,
+                item: value.item(),
+            })?;
+        }
+    }
+    Ok(entries)
 }

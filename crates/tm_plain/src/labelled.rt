@@ -1,11 +1,12 @@
 //! Labelled trees: what snapshots hold.
-ghost use Rattle.std.specs.Prelude.{◌≡◌, [], ◌∷◌, IfOk, MatchOption};
+ghost use Rattle.std.specs.Prelude.{◌≡◌, [], ◌∷◌, IfOk, MatchOption, map};
+ghost use Rattle.tm_plain.specs.Entries.{named};
 ghost use Rattle.tm_tree.specs.Copies.{bare, copy, copied_label, is_same_at, label_or};
-ghost use Rattle.tm_tree.specs.Listings.{listing};
+ghost use Rattle.tm_tree.specs.Listings.{listing, entries_of};
 ghost use Rattle.tm_tree.specs.Trees.{at, beneath};
 ghost use Rattle.tm_tree.specs.Walks.{walk, Finds};
 
-use crate::items;
+use crate::items::{self, Entry};
 use crate::tree::Tree;
 use std::alloc::{AllocError, Global};
 use std::collections::BTreeMap;
@@ -55,6 +56,13 @@ impl LabelledTree {
         ensures { IfOk result (λ found. found ≡ listing (bare self.now) path.now) }
     {
         items::list(self.alloc, &self.items, path)
+    }
+
+    /// The entries of the folder at a path, by rising name; none where no folder stands there.
+    pub fn entries(&self, path: &Path) -> Result<Vec<Entry<'_>>, AllocError>
+        ensures { IfOk result (λ found. map named found.items ≡ entries_of (bare self.now) path.now) }
+    {
+        items::entries(self.alloc, &self.items, path)
     }
 
     /// The copy of a tree by the backup with this number over this tree: an item with all beneath it

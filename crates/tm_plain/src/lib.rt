@@ -11,6 +11,7 @@ mod tree;
 mod view;
 mod volume;
 
+pub use items::Entry;
 pub use labelled::LabelledTree;
 pub use tree::Tree;
 pub use volume::Volume;

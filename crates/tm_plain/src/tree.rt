@@ -1,13 +1,14 @@
 //! The tree of a volume.
-ghost use Rattle.std.specs.Prelude.{◌≡◌, false, length, count_by, IfOk, OnOk, OnErr};
+ghost use Rattle.std.specs.Prelude.{◌≡◌, false, length, count_by, IfOk, OnOk, OnErr, map};
 ghost use Rattle.std.specs.Option.{option_copied};
 ghost use Rattle.tm_tree.specs.Changes.{is_too_deep};
 ghost use Rattle.tm_tree.specs.Items.{is_folder, stamped, with_attrs};
-ghost use Rattle.tm_tree.specs.Listings.{listing};
+ghost use Rattle.tm_plain.specs.Entries.{named};
+ghost use Rattle.tm_tree.specs.Listings.{listing, entries_of};
 ghost use Rattle.tm_tree.specs.Trees.{item_at, put, without, change_at, touch, folder_at, children, moved, new_tree};
 ghost use Rattle.tm_tree.specs.Walks.{walk, way, way_to, Finds};
 
-use crate::items;
+use crate::items::{self, Entry};
 use crate::paths::{is_child, rekeyed};
 use std::alloc::{AllocError, Global};
 use std::collections::BTreeMap;
@@ -108,6 +109,13 @@ impl Tree {
         ensures { IfOk result (λ found. found ≡ listing self.now path.now) }
     {
         items::list(self.alloc, &self.items, path)
+    }
+
+    /// The entries of the folder at a path, by rising name; none where no folder stands there.
+    pub fn entries(&self, path: &Path) -> Result<Vec<Entry<'_>>, AllocError>
+        ensures { IfOk result (λ found. map named found.items ≡ entries_of self.now path.now) }
+    {
+        items::entries(self.alloc, &self.items, path)
     }
 
     /// Where the walk down a path ends.

@@ -1,7 +1,8 @@
 //! The plain volume.
-ghost use Rattle.std.specs.Prelude.{◌≡◌, ◌+◌, ◌^◌, ◌≤◌, None, IfOk, OnOk, OnErr, unwrap_or};
+ghost use Rattle.std.specs.Prelude.{◌≡◌, ◌+◌, ◌^◌, ◌≤◌, None, IfOk, OnOk, OnErr, unwrap_or, map};
+ghost use Rattle.tm_plain.specs.Entries.{named};
 ghost use Rattle.tm_tree.specs.Changes.{ids_spent, own_tests, tests, tree_after, fixed_after};
-ghost use Rattle.tm_tree.specs.Listings.{listing};
+ghost use Rattle.tm_tree.specs.Listings.{listing, entries_of};
 ghost use Rattle.tm_tree.specs.Making.{MakesChange};
 ghost use Rattle.tm_tree.specs.Refusing.{first_refused};
 ghost use Rattle.tm_tree.specs.States.{new_volume};
@@ -10,6 +11,7 @@ ghost use Rattle.tm_tree.specs.Views.{view};
 ghost use Rattle.tm_tree.specs.Walks.{walk, Finds};
 
 use crate::effects::fill_bytes;
+use crate::items::Entry;
 use crate::refusals::{refuses_fix, refuses_unfix};
 use crate::tree::Tree;
 use std::alloc::{AllocError, Global};
@@ -128,6 +130,13 @@ impl Volume {
         ensures { IfOk result (λ found. found ≡ listing self.now.contents.tree path.now) }
     {
         self.tree.list(path)
+    }
+
+    /// The entries of the folder at a path, by rising name; none where no folder stands there.
+    pub fn entries(&self, path: &Path) -> Result<Vec<Entry<'_>>, AllocError>
+        ensures { IfOk result (λ found. map named found.items ≡ entries_of self.now.contents.tree path.now) }
+    {
+        self.tree.entries(path)
     }
 
     /// The tree without its exclusions.

@@ -1,5 +1,5 @@
 -- Local listings: what one folder holds, without what is beneath.
-use Rattle.std.specs.Prelude.{Option, Some, None, List, map, length}
+use Rattle.std.specs.Prelude.{ℕ, Option, Some, None, List, map, length}
 use Rattle.tm_base.specs.Paths.{Names}
 use Rattle.tm_tree.specs.declared.item.Item.{Item}
 use Rattle.tm_tree.specs.declared.item.Item.TheVariants.{Folder, File, Link}
@@ -27,3 +27,7 @@ listing_of (Some (Link a s t)) rows = None
 -- none where no folder stands at p; else its attributes and what it holds, by rising name
 abbrev pub listing : Tree → Names → Option Listing
 listing t p = listing_of (item_at t p) (list_rows t p)
+
+-- the entries of the folder at p with their names, by rising name
+abbrev pub entries_of : Tree → Names → List (List ℕ × Item)
+entries_of t p = map (λ row. (last_of row.0, row.1)) (children t p)
