@@ -6,11 +6,13 @@ mod items;
 mod labelled;
 mod paths;
 mod refusals;
+mod store;
 mod touches;
 mod tree;
 mod view;
 mod volume;
 
 pub use labelled::LabelledTree;
+pub use store::{Snapshot, Store};
 pub use tree::Tree;
 pub use volume::Volume;
