@@ -2,7 +2,6 @@
 use Rattle.std.proofs.Common.{◌≡◌, ℕ, ◌+◌, ◌^◌, ◌≤◌, Bool, true, false, List, [], ◌∷◌, ◌++◌, length, Option, None, Some, IsSome, if◌then◌else◌, refl, sym, subst, arith}
 use Rattle.std.proofs.lemmas.Bool.Decides.{nat_tests}
 use Rattle.std.specs.Option.{option_or}
-use Rattle.tm_base.specs.declared.refused.Refused.{Refused}
 use Rattle.tm_base.specs.declared.refused.Refused.TheVariants.{IsFolder}
 use Rattle.tm_base.specs.Paths.{Names, parent_of, same_name}
 use Rattle.tm_tree.specs.Changes.{ids_spent, own_tests, tests, place_tests, file_tests, item_tests, rmdir_tests, mv_tests, length_at}
@@ -109,4 +108,3 @@ few_touches t (Setx p name value) = few_extra t p name
 few_touches t (Rmx p name) = few_extra t p name
 few_touches t (Fix p) = omega arith
 few_touches t (Unfix p) = omega arith
-

@@ -86,12 +86,7 @@ impl Tree {
         Ok(())
     }
 
-    pub(crate) fn set_mode(
-        &mut self,
-        path: &Path,
-        stamp: u64,
-        mode: u16,
-    ) -> Result<(), AllocError>
+    pub(crate) fn set_mode(&mut self, path: &Path, stamp: u64, mode: u16) -> Result<(), AllocError>
         ensures ok { OnOk result (self.new
             ≡ attrs_changed self.old path.now stamp (λ a. record a { mode = mode })) }
         ensures err { OnErr result (self.new ≡ self.old) }

@@ -6,6 +6,7 @@ mod items;
 mod labelled;
 mod paths;
 mod refusals;
+mod store;
 mod touches;
 mod tree;
 mod view;
@@ -13,5 +14,6 @@ mod volume;
 
 pub use items::Entry;
 pub use labelled::LabelledTree;
+pub use store::{Snapshot, Store};
 pub use tree::Tree;
 pub use volume::Volume;

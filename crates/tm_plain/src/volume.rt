@@ -44,11 +44,11 @@ impl Model for Volume {
     ghost Value = { VolumeState };
 
     ghost view = { λ v. record {
-        name = v.name;
-        id = v.id;
-        capacity = v.capacity;
-        generation = v.generation;
-        contents = record { tree = v.tree; fixed = v.fixed.keys; next = v.next };
+      name = v.name;
+      id = v.id;
+      capacity = v.capacity;
+      generation = v.generation;
+      contents = record { tree = v.tree; fixed = v.fixed.keys; next = v.next };
     } };
 }
 
@@ -150,11 +150,7 @@ impl Volume {
     /// Makes a change, and tells its touches in the order in which they draw numbers, which come
     /// after those of its stamps; or refuses it for the first reason (`docs/SCRIPT.md`,
     /// "Refusals"). Where it is refused or memory is, the volume stays as it was.
-    pub fn change(
-        &mut self,
-        change: &Change,
-        moment: Option<Moment>,
-    ) -> Result<Touches, LineFault>
+    pub fn change(&mut self, change: &Change, moment: Option<Moment>) -> Result<Touches, LineFault>
         ensures { MakesChange self.old change.now moment self.new result }
     {
         let made_at = moment;
@@ -184,7 +180,8 @@ impl Volume {
     fn draw(&mut self, count: u64)
         requires { self.old.contents.next + count ≤ 2 ^ 62 }
         ensures { self.new ≡ record self.old {
-            contents = record self.old.contents { next = self.old.contents.next + count } } }
+          contents = record self.old.contents { next = self.old.contents.next + count };
+        } }
     {
         self.next += count;
     }
@@ -250,9 +247,12 @@ impl Volume {
     // The tree and the fixed paths after a change that nothing refuses.
     fn make(&mut self, change: &Change, moment: Option<Moment>) -> Result<(), AllocError>
         requires { first_refused (tests self.old.contents change.now moment) ≡ None }
-        ensures ok { OnOk result (self.new ≡ record self.old { contents = record self.old.contents {
+        ensures ok { OnOk result (self.new ≡ record self.old {
+          contents = record self.old.contents {
             tree = tree_after self.old.contents.tree self.old.contents.next (unwrap_or moment 0) change.now;
-            fixed = fixed_after self.old.contents.fixed change.now } }) }
+            fixed = fixed_after self.old.contents.fixed change.now;
+          };
+        }) }
         ensures err { OnErr result (self.new ≡ self.old) }
     {
         let stamp = self.next;

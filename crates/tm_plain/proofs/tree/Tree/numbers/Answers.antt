@@ -1,4 +1,4 @@
-use Rattle.std.proofs.Common.{◌≡◌, arith, ap, length}
+use Rattle.std.proofs.Common.{arith, ap, length}
 use Rattle.tm_plain.proofs.Passes.{few_touches}
 use Rattle.tm_plain.proofs.tree.Tree.numbers.Goals as goal
 

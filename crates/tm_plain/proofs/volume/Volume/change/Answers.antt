@@ -1,4 +1,4 @@
-use Rattle.std.proofs.Common.{◌≡◌, arith, ap, sym, ◌∙◌}
+use Rattle.std.proofs.Common.{arith, ap, sym, ◌∙◌}
 use Rattle.tm_tree.specs.States.{VolumeState}
 use Rattle.tm_plain.proofs.Passes.{numbers_left}
 use Rattle.tm_plain.proofs.volume.Volume.change.Goals as goal

@@ -1,4 +1,4 @@
-use Rattle.std.proofs.Common.{◌≡◌, sym, ap, ◌∙◌}
+use Rattle.std.proofs.Common.{sym, ◌∙◌}
 use Rattle.std.specs.Option.{option_or}
 use Rattle.tm_tree.specs.Changes.{own_tests, ids_spent}
 use Rattle.tm_tree.specs.Refusing.{first_refused}
