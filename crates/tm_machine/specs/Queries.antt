@@ -1,0 +1,115 @@
+-- The data lines of the lines that read.
+use Rattle.std.specs.Prelude.{ℕ, if◌then◌else◌, Option, Some, None, List, [], ◌∷◌, ◌++◌, length, map, count_by}
+use Rattle.std.specs.Option.{option_map_or}
+use Rattle.tm_base.specs.Paths.{Names}
+use Rattle.tm_reply.specs.declared.row.Attributes.{Attributes}
+use Rattle.tm_reply.specs.declared.row.ListedName.{ListedName}
+use Rattle.tm_reply.specs.declared.row.ListedName.TheVariants as called
+use Rattle.tm_reply.specs.declared.row.ReplyRow.{ReplyRow}
+use Rattle.tm_reply.specs.declared.row.ReplyRow.TheVariants as row
+use Rattle.tm_text.specs.declared.place.Which.{Which}
+use Rattle.tm_text.specs.declared.place.Which.TheVariants as which
+use Rattle.tm_text.specs.declared.place.StorePath.{StorePath}
+use Rattle.tm_text.specs.declared.place.StorePath.TheVariants as place
+use Rattle.tm_text.specs.declared.place.SnapshotAt.{SnapshotAt}
+use Rattle.tm_text.specs.declared.place.ItemAt.{ItemAt}
+use Rattle.tm_tree.specs.declared.attrs.Attrs.{Attrs}
+use Rattle.tm_tree.specs.declared.item.Item.{Item}
+use Rattle.tm_tree.specs.declared.item.Item.TheVariants.{Folder, File, Link}
+use Rattle.tm_tree.specs.Copies.{bare}
+use Rattle.tm_tree.specs.Items.{attrs_of, is_folder}
+use Rattle.tm_tree.specs.Listings.{entries_of}
+use Rattle.tm_tree.specs.Lookups.{snapshot_at, snapshot_under}
+use Rattle.tm_tree.specs.States.{VolumeState, StoreState, Snapshot, latest}
+use Rattle.tm_tree.specs.Trees.{Tree, item_at}
+use Rattle.tm_tree.specs.Views.{view}
+
+-- ---- an item and what it holds
+
+abbrev pub attributes : Attrs → Attributes
+attributes a = record { mode = a.mode; uid = a.uid; gid = a.gid; modified = a.modified; extras = length a.extra }
+
+-- the line of an item
+abbrev pub item_row : Item → ListedName → ReplyRow
+item_row (Folder a) name = row.Folder (attributes a) name
+item_row (File a stamp bytes) name = row.File (attributes a) (length bytes) stamp name
+item_row (Link a stamp target) name = row.Link (attributes a) stamp name target
+
+abbrev pub extra_row : List ℕ × List ℕ → ReplyRow
+extra_row extra = row.Extra extra.0 extra.1
+
+-- the lines of its extras, by rising name
+abbrev pub extra_rows : Attrs → List ReplyRow
+extra_rows a = map extra_row a.extra
+
+-- the line of an entry
+abbrev pub named_row : List ℕ × Item → ReplyRow
+named_row entry = item_row entry.1 (called.Entry entry.0)
+
+-- an item with its extras, and, if it is a folder, its entries
+abbrev pub shown_rows : Item → Names → List (List ℕ × Item) → List ReplyRow
+shown_rows e p entries =
+    item_row e (called.Path p) ∷ extra_rows (attrs_of e) ++ (if is_folder e then map named_row entries else [])
+
+-- the lines of what stands at p
+abbrev pub list_rows : Tree → Names → List ReplyRow
+list_rows t p = option_map_or (λ e. shown_rows e p (entries_of t p)) (item_at t p) []
+
+abbrev pub content_row : Item → List ReplyRow
+content_row (Folder a) = []
+content_row (File a stamp bytes) = row.Contents bytes ∷ []
+content_row (Link a stamp target) = row.Target target ∷ []
+
+-- the contents of the file at p, or the target of the link
+abbrev pub content_rows : Tree → Names → List ReplyRow
+content_rows t p = option_map_or content_row (item_at t p) []
+
+-- ---- the store
+
+abbrev pub path_row : List ℕ → Snapshot → ReplyRow
+path_row machine s = row.SnapshotPath machine s.date
+
+abbrev pub snapshot_paths : StoreState → List ReplyRow
+snapshot_paths store = map (path_row store.machine) store.snapshots
+
+abbrev pub latest_path : StoreState → List ReplyRow
+latest_path store = option_map_or (λ s. row.SnapshotPath store.machine s.date ∷ []) (latest store) []
+
+abbrev pub date_row : Snapshot → ReplyRow
+date_row s = row.Snapshot s.date
+
+-- a machine's snapshots by rising date, and the latest
+abbrev pub machine_rows : StoreState → List ReplyRow
+machine_rows store =
+    map date_row store.snapshots
+    ++ option_map_or (λ s. row.Latest s.date ∷ []) (latest store) []
+
+-- the date of a snapshot that a store path names; none for the latest
+abbrev pub date_of : Which → Option ℕ
+date_of which.Latest = None
+date_of (which.At date) = Some date
+
+-- the snapshot that a store path names
+abbrev pub named_snapshot : StoreState → SnapshotAt → Option Snapshot
+named_snapshot store at = snapshot_at store at.machine (date_of at.at)
+
+-- and under the name of its volume
+abbrev pub holding_snapshot : StoreState → ItemAt → Option Snapshot
+holding_snapshot store item = snapshot_under store item.snapshot.machine (date_of item.snapshot.at) item.volume
+
+-- what is stored in a snapshot; nothing where there is none
+abbrev pub stored_tree : Option Snapshot → Tree
+stored_tree None = []
+stored_tree (Some s) = bare s.tree
+
+abbrev pub store_rows : StoreState → StorePath → List ReplyRow
+store_rows store place.Top = row.Machine store.machine ∷ []
+store_rows store (place.Machine machine) = machine_rows store
+store_rows store (place.Snapshot at) = option_map_or (λ s. row.Volume s.volume s.id ∷ []) (named_snapshot store at) []
+store_rows store (place.Item item) = list_rows (stored_tree (holding_snapshot store item)) item.path
+
+-- ---- a backup
+
+-- the folders of the view, each of which a backup walks
+abbrev pub walked : VolumeState → ℕ
+walked v = count_by (λ entry. is_folder entry.1) (view v.contents.fixed v.contents.tree)

@@ -1,0 +1,185 @@
+-- The step of the plain machine: when each line is refused, what it answers, and what it does.
+use Rattle.std.specs.Prelude.{ℕ, ◌+◌, ◌^◌, Bool, true, false, not, nat_lt, nat_le, ◌==◌, Option, Some, None, is_some, is_none, unwrap_or, List, [], ◌∷◌, ◌++◌, length}
+use Rattle.std.specs.List.{list_any}
+use Rattle.std.specs.Option.{option_map, option_map_or}
+use Rattle.tm_base.specs.Paths.{Names, same_name}
+use Rattle.tm_base.specs.declared.refused.Refused.{Refused}
+use Rattle.tm_base.specs.declared.refused.Refused.TheVariants.{NoVolume, NoStore, Already, IsFolder, DateNotLater, ClockBack, NoSnapshot, IdsSpent, IdTaken, NotBuilt}
+use Rattle.tm_reply.specs.declared.reply.Reply.{Reply}
+use Rattle.tm_reply.specs.declared.row.ReplyRow.{ReplyRow}
+use Rattle.tm_reply.specs.declared.row.ReplyRow.TheVariants as row
+use Rattle.tm_text.specs.declared.line.Line.{Line}
+use Rattle.tm_text.specs.declared.line.Line.TheVariants as line
+use Rattle.tm_text.specs.declared.place.StorePath.{StorePath}
+use Rattle.tm_text.specs.declared.place.StorePath.TheVariants as place
+use Rattle.tm_tree.specs.declared.change.Change.{Change}
+use Rattle.tm_tree.specs.Changes as volume
+use Rattle.tm_tree.specs.Changes.{item_tests}
+use Rattle.tm_tree.specs.Copies.{bare}
+use Rattle.tm_tree.specs.Refusing.{Tests, first_refused, too_many, needs_moment}
+use Rattle.tm_tree.specs.States.{VolumeState, StoreState, Snapshot, new_volume, new_store, latest, backed_up}
+use Rattle.tm_tree.specs.Trees.{Tree}
+use Rattle.tm_tree.specs.Walks.{way, is_at_folder}
+use Rattle.tm_machine.specs.States.{State}
+use Rattle.tm_machine.specs.Queries.{list_rows, content_rows, snapshot_paths, latest_path, store_rows, named_snapshot, holding_snapshot, stored_tree, walked}
+use Rattle.tm_machine.specs.Changing.{change_of}
+
+-- ---- when a line is refused: its tests by rising number of the refusal
+
+abbrev pub on_volume : Option VolumeState → (VolumeState → Tests) → Tests
+on_volume None tests = (true, NoVolume) ∷ []
+on_volume (Some v) tests = tests v
+
+abbrev pub on_store : Option StoreState → (StoreState → Tests) → Tests
+on_store None tests = (true, NoStore) ∷ []
+on_store (Some store) tests = tests store
+
+-- a line that no machine builds yet
+abbrev pub not_built : Tests
+not_built = (true, NotBuilt) ∷ []
+
+-- the new moment is earlier than the one that is set
+abbrev pub clock_tests : Option ℕ → ℕ → Tests
+clock_tests None date = []
+clock_tests (Some moment) date = (nat_lt date moment, ClockBack moment) ∷ []
+
+-- a snapshot of the store has this volume id
+abbrev pub is_taken : Option StoreState → ℕ → Bool
+is_taken None id = false
+is_taken (Some store) id = list_any (λ s. s.id == id) store.snapshots
+
+abbrev pub new_volume_tests : State → ℕ → Tests
+new_volume_tests s id = (is_some s.volume, Already) ∷ needs_moment s.moment ++ (is_taken s.store id, IdTaken) ∷ []
+
+abbrev pub new_store_tests : State → Tests
+new_store_tests s = (is_some s.store, Already) ∷ []
+
+-- a file or link is needed at p
+abbrev pub content_tests : Tree → Names → Tests
+content_tests t p = item_tests t p ++ (is_at_folder (way t p), IsFolder) ∷ []
+
+-- snapshots of a store
+abbrev pub most_snapshots : ℕ
+most_snapshots = 1024
+
+-- the moment is not later than the last snapshot's date
+abbrev pub date_tests : Option Snapshot → Option ℕ → Tests
+date_tests (Some s) (Some moment) = (nat_le moment s.date, DateNotLater s.date) ∷ []
+date_tests _ _ = []
+
+abbrev pub backup_tests : StoreState → Option ℕ → Tests
+backup_tests store moment =
+    too_many most_snapshots (length store.snapshots + 1)
+    ++ date_tests (latest store) moment
+    ++ needs_moment moment
+    ++ (nat_le (2 ^ 40) store.number, IdsSpent) ∷ []
+
+abbrev pub start_tests : Option VolumeState → Option StoreState → Option ℕ → Tests
+start_tests v store moment = on_volume v (λ _. on_store store (λ store. backup_tests store moment))
+
+-- a store path names no snapshot
+abbrev pub snapshot_tests : Option Snapshot → Tests
+snapshot_tests found = (is_none found, NoSnapshot) ∷ []
+
+-- the walk to a stored item, where its snapshot is found
+abbrev pub stored_tests : (Tree → Names → Tests) → Option Snapshot → Names → Tests
+stored_tests tests None p = snapshot_tests None
+stored_tests tests (Some s) p = tests (bare s.tree) p
+
+abbrev pub place_tests : StoreState → StorePath → Tests
+place_tests store place.Top = []
+place_tests store (place.Machine machine) = (not (same_name machine store.machine), NoSnapshot) ∷ []
+place_tests store (place.Snapshot at) = snapshot_tests (named_snapshot store at)
+place_tests store (place.Item item) = stored_tests item_tests (holding_snapshot store item) item.path
+
+-- the lines that change no contents of a volume
+abbrev pub other_tests : State → Line → Tests
+other_tests s (line.At date) = clock_tests s.moment date
+other_tests s (line.NewVolume name id events) = new_volume_tests s id
+other_tests s (line.NewStore machine) = new_store_tests s
+other_tests s (line.Ls p) = on_volume s.volume (λ v. item_tests v.contents.tree p)
+other_tests s (line.Cat p) = on_volume s.volume (λ v. content_tests v.contents.tree p)
+other_tests s line.StartBackupBlock = start_tests s.volume s.store s.moment
+other_tests s line.ListBackups = on_store s.store (λ store. [])
+other_tests s line.LatestBackup = on_store s.store (λ store. snapshot_tests (latest store))
+other_tests s line.MachineDirectory = on_store s.store (λ store. [])
+other_tests s (line.StoreLs at) = on_store s.store (λ store. place_tests store at)
+other_tests s (line.StoreCat item) = on_store s.store (λ store. stored_tests content_tests (holding_snapshot store item) item.path)
+other_tests s _ = not_built
+
+-- a line that changes the contents of the volume
+abbrev pub change_tests : State → Change → Tests
+change_tests s c = on_volume s.volume (λ v. volume.tests v.contents c s.moment)
+
+abbrev pub tests_by : State → Line → Option Change → Tests
+tests_by s l (Some c) = change_tests s c
+tests_by s l None = other_tests s l
+
+-- a change of the volume's contents is refused as the change is
+abbrev pub tests : State → Line → Tests
+tests s l = tests_by s l (change_of l)
+
+-- why a line is refused, if it is
+abbrev pub refusal : State → Line → Option Refused
+refusal s l = first_refused (tests s l)
+
+-- ---- what a line answers that is not refused: its data lines
+
+abbrev pub finished_rows : Option ℕ → VolumeState → List ReplyRow
+finished_rows moment v = row.Finished (unwrap_or moment 0) (walked v) ∷ []
+
+abbrev pub rows : State → Line → List ReplyRow
+rows s (line.Ls p) = option_map_or (λ v. list_rows v.contents.tree p) s.volume []
+rows s (line.Cat p) = option_map_or (λ v. content_rows v.contents.tree p) s.volume []
+rows s line.StartBackupBlock = option_map_or (finished_rows s.moment) s.volume []
+rows s line.ListBackups = option_map_or snapshot_paths s.store []
+rows s line.LatestBackup = option_map_or latest_path s.store []
+rows s line.MachineDirectory = option_map_or (λ store. row.MachineDirectory store.machine ∷ []) s.store []
+rows s (line.StoreLs at) = option_map_or (λ store. store_rows store at) s.store []
+rows s (line.StoreCat item) = option_map_or (λ store. content_rows (stored_tree (holding_snapshot store item)) item.path) s.store []
+rows s _ = []
+
+-- ---- what a line does that is not refused
+
+abbrev pub changed_by : Change → Option ℕ → VolumeState → VolumeState
+changed_by c moment v = record v { contents = volume.after v.contents c moment }
+
+-- a backup that starts now and finishes at once
+abbrev pub backed : Option VolumeState → Option StoreState → Option ℕ → Option StoreState
+backed (Some v) (Some store) (Some date) = Some (backed_up store v date)
+backed _ store _ = store
+
+abbrev pub other_after : State → Line → State
+other_after s (line.At date) = record s { moment = Some date }
+other_after s (line.NewVolume name id events) = record s { volume = Some (new_volume name id events (unwrap_or s.moment 0)) }
+other_after s (line.NewStore machine) = record s { store = Some (new_store machine) }
+other_after s line.StartBackupBlock = record s { store = backed s.volume s.store s.moment }
+other_after s _ = s
+
+abbrev pub changed : State → Change → State
+changed s c = record s { volume = option_map (changed_by c s.moment) s.volume }
+
+abbrev pub after_by : State → Line → Option Change → State
+after_by s l (Some c) = changed s c
+after_by s l None = other_after s l
+
+abbrev pub after : State → Line → State
+after s l = after_by s l (change_of l)
+
+-- ---- the step
+
+abbrev pub answer : Option Refused → List ReplyRow → Reply
+answer None data_lines = record { rows = data_lines; refused = None }
+answer (Some why) data_lines = record { rows = []; refused = Some why }
+
+-- the reply to a line
+abbrev pub reply : State → Line → Reply
+reply s l = answer (refusal s l) (rows s l)
+
+abbrev pub unless_refused : Option Refused → State → State → State
+unless_refused None old new = new
+unless_refused (Some why) old new = old
+
+-- the state after a line: a refused line changes nothing
+abbrev pub step : State → Line → State
+step s l = unless_refused (refusal s l) s (after s l)

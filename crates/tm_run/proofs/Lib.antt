@@ -1,0 +1,4 @@
+pub mod CommandLemmas
+pub mod ScriptLemmas
+pub mod SayLemmas
+pub mod LoopLemmas

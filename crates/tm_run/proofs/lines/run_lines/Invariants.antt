@@ -1,0 +1,17 @@
+use Rattle.std.proofs.Common.{◌≡◌, ◌++◌, ◌||◌, drop}
+use Rattle.tm_world.specs.Log.{now}
+use Rattle.tm_world.specs.Faults.{NeverLess}
+use Rattle.tm_machine.specs.Runs.{said_of, any_refused}
+use Rattle.tm_run.specs.Ends.{SaysPrefix}
+use Rattle.tm_run.proofs.lines.run_lines.Given as goal
+
+-- what is left to say completes what is said
+abbrev pub invariant-loop-line : goal.invariant-loop-line
+invariant-loop-line g l = record {
+  refused : any_refused l.initial.session l.lines ≡ (l.refused || any_refused l.session (drop l.line-index l.lines));
+  said : g.W.World.told → (now (g.W.World.log l.initial.world)).said ++ said_of l.initial.session l.lines
+      ≡ (now (g.W.World.log l.world)).said ++ said_of l.session (drop l.line-index l.lines);
+  cut : g.W.World.told → SaysPrefix (said_of l.initial.session l.lines) (now (g.W.World.log l.initial.world)) (now (g.W.World.log l.world));
+  blocks : g.W.World.blocks l.world ≡ g.W.World.blocks l.initial.world;
+  faults : NeverLess (g.W.World.faults l.initial.world) (g.W.World.faults l.world);
+}

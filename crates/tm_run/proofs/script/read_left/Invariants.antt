@@ -1,0 +1,16 @@
+use Rattle.std.proofs.Common.{◌≡◌, ◌≤◌, ◌-◌, ◌++◌, length, vec_len}
+use Rattle.tm_world.specs.Log.{now}
+use Rattle.tm_world.specs.Faults.{NeverLess}
+use Rattle.tm_run.proofs.ScriptLemmas.{HasRead}
+use Rattle.tm_run.proofs.script.read_left.Given as goal
+
+abbrev pub invariant-parts : goal.invariant-parts
+invariant-parts g l = record {
+  few : vec_len l.script ≤ 1_048_577;
+  read : g.W.World.told → HasRead (now (g.W.World.log l.initial.world)) (now (g.W.World.log l.world)) l.script.items;
+  blocks : g.W.World.blocks l.world ≡ g.W.World.blocks l.initial.world;
+  faults : NeverLess (g.W.World.faults l.initial.world) (g.W.World.faults l.world);
+}
+
+abbrev pub decreases-parts : goal.decreases-parts
+decreases-parts g l = 1_048_577 - vec_len l.script

@@ -1,0 +1,11 @@
+use Rattle.std.proofs.Common.{List, ℕ, subst, ◌∙◌, ◌≡◌, string_bytes}
+use Rattle.tm_world.specs.Log.{now}
+use Rattle.tm_run.specs.Ends.{SaysPrefix}
+use Rattle.tm_run.specs.Outcomes.{bad_line}
+use Rattle.tm_run.proofs.top.say_bad_line.Goals as goal
+
+pub returns-in-Ok-clause-cut : goal.returns-in-Ok-clause-cut
+unfolding bad_line
+returns-in-Ok-clause-cut g c told =
+    subst (λ (t : List ℕ). SaysPrefix t (now (g.W.World.log c.args.world.now)) (now (g.W.World.log c.say_last.new.world)))
+    (c.as_str.ensures.value ∙ c.in-Ok.ensures.ok) (c.say_last.ensures.cut told)

@@ -1,0 +1,6 @@
+pub mod Codes
+pub mod Command
+pub mod Scripts
+pub mod Outcomes
+pub mod Ends
+pub mod Readings

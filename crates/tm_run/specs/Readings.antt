@@ -1,0 +1,30 @@
+-- What the parts of a run answer.
+use Rattle.std.specs.Prelude.{◌≡◌, ◌⊎◌, ℕ, ◌<◌, ◌≤◌, List, Result, Ok, Err, length}
+use Rattle.tm_world.specs.Outside.{Outside}
+use Rattle.tm_text.specs.declared.line.Line.{Line}
+use Rattle.tm_text.specs.Script.{IsScript, IsFirstBad}
+use Rattle.tm_run.specs.declared.top.ScriptEnd.{ScriptEnd}
+use Rattle.tm_run.specs.declared.top.ScriptEnd.TheVariants.{TooLong, BadLine, Fault, Memory}
+use Rattle.tm_run.specs.declared.status.Status.{Status}
+use Rattle.tm_run.specs.declared.status.Status.TheVariants as status
+use Rattle.tm_run.specs.Scripts.{longest_script, StandsWith}
+
+-- the lines of the script at the path, or why it has none
+abbrev pub ReadsLines : Outside → List ℕ → Result (List Line) ScriptEnd → Type 0
+ReadsLines outside path (Ok lines) = StandsWith outside path (λ script. (length script ≤ longest_script) × IsScript script lines)
+ReadsLines outside path (Err TooLong) = StandsWith outside path (λ script. longest_script < length script)
+ReadsLines outside path (Err (BadLine n)) = StandsWith outside path (λ script. (length script ≤ longest_script) × IsFirstBad script n)
+ReadsLines outside path (Err Fault) = Unit {0}
+ReadsLines outside path (Err Memory) = Unit {0}
+
+-- this status, or that the run was cut short
+abbrev pub IsOneOf : Status → Status → Type 0
+IsOneOf wanted ended = (ended ≡ wanted) ⊎ ((ended ≡ status.Memory) ⊎ (ended ≡ status.OutFault))
+
+-- how a run of lines ends
+abbrev pub IsEndOfLines : Status → Type 0
+IsEndOfLines status.Done = Unit {0}
+IsEndOfLines status.DoneRefused = Unit {0}
+IsEndOfLines status.Memory = Unit {0}
+IsEndOfLines status.OutFault = Unit {0}
+IsEndOfLines _ = ⊥
