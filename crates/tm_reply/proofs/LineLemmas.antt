@@ -1,11 +1,11 @@
 -- Printed words hold no end of line.
-use Rattle.std.proofs.Common.{◌≡◌, ℕ, zero, suc, ◌+◌, ◌/◌, ◌%◌, ◌==◌, ◌<◌, ◌&&◌, not, Bool, true, false, cond, if◌then◌else◌, List, [], ◌∷◌, ◌++◌, refl, sym, ap, ◌∙◌, arith, true≢false, subst, append_assoc, nat_lt, nat_le, ◌||◌, rules, lit<}
-use Rattle.std.specs.List.{list_all, flat_map}
+use Rattle.std.proofs.Common.{◌≡◌, ℕ, zero, suc, ◌+◌, ◌/◌, ◌%◌, ◌==◌, ◌<◌, not, Bool, true, false, if◌then◌else◌, List, [], ◌∷◌, ◌++◌, refl, sym, ap, ◌∙◌, arith, append_assoc, nat_lt, lit<}
+use Rattle.std.specs.List.{flat_map}
 use Rattle.std.specs.Fmt.{digit_glyph, digits_onto, digits, decimal}
 use Rattle.std.specs.Int.{w128, to_be_bytes}
 use Rattle.std.proofs.lemmas.List.Folds.{list_all-append}
 use Rattle.std.proofs.lemmas.Bool.Decides.{nat_tests}
-use Rattle.uuid.specs.Text.{by_index, hex_digit, lower, hyphenated_text, is_hyphen_place, digit_place, nibble, hyphen}
+use Rattle.uuid.specs.Text.{by_index, hex_digit, lower, is_hyphen_place, digit_place, nibble}
 use Rattle.tm_base.specs.Days.{moment_text}
 use Rattle.tm_reply.specs.Escapes.{printed_byte, printed_word, printed_path, printed_id, printed_octal, is_escaped, upper_digit}
 use Rattle.tm_reply.specs.Layout.{spaced, line_of}
@@ -88,7 +88,7 @@ unfolding moment_text
 unbroken_date n =
     let above : (d : ℕ) → 0x0A < 48 + d = λ d. omega arith in
     let digit : (d : ℕ) (rest : List ℕ) → IsUnbroken rest → IsUnbroken ((48 + d) ∷ rest) =
-        λ d rest p. unbroken_more (48 + d) rest (above d) p
+    λ d rest p. unbroken_more (48 + d) rest (above d) p
     in
     let dash : (rest : List ℕ) → IsUnbroken rest → IsUnbroken (45 ∷ rest) = λ rest p. unbroken_more 45 rest (lit< tt) p in
     digit _ _ (digit _ _ (digit _ _ (digit _ _ (dash _ (digit _ _ (digit _ _ (dash _ (digit _ _ (digit _ _ (dash _

@@ -20,7 +20,7 @@ use Rattle.tm_reply.specs.declared.row.ListedName.{ListedName}
 use Rattle.tm_reply.specs.declared.row.ListedName.TheVariants as listed
 use Rattle.tm_reply.specs.declared.row.ReplyRow.{ReplyRow}
 use Rattle.tm_reply.specs.declared.row.ReplyRow.TheVariants as row
-use Rattle.tm_reply.proofs.LineLemmas.{IsUnbroken, AllUnbroken, unbroken_append, unbroken_more, unbroken_decimal, unbroken_octal, unbroken_word, unbroken_path, unbroken_date, unbroken_id, unbroken_spaced, line_of-spaced}
+use Rattle.tm_reply.proofs.LineLemmas.{IsUnbroken, AllUnbroken, unbroken_append, unbroken_decimal, unbroken_octal, unbroken_word, unbroken_path, unbroken_date, unbroken_id, unbroken_spaced, line_of-spaced}
 
 -- one data line with its end
 record IsDataText (text : List ℕ) : Type 0 where
@@ -218,12 +218,11 @@ rows_then [] rest = ([], refl, refl)
 rows_then (r ∷ rows) rest =
     let first = row_goes_on r in
     let more = rows_then rows rest in
-    let texts = flat_map row_text rows in
-    (
+    let texts = flat_map row_text rows in (
       first.line ∷ more.0,
       rw (first.goes_on, more.1) refl,
       append_assoc (row_text r) texts rest ∙ ap (λ (t : List ℕ). t ++ (texts ++ rest)) first.ended
-      ∙ append_assoc first.line (0x0A ∷ []) (texts ++ rest) ∙ ap (λ (t : List ℕ). first.line ++ 0x0A ∷ t) more.2,
+          ∙ append_assoc first.line (0x0A ∷ []) (texts ++ rest) ∙ ap (λ (t : List ℕ). first.line ++ 0x0A ∷ t) more.2,
     )
 
 pub closes_once : (reply : Reply) → ClosesOnce (reply_text reply)

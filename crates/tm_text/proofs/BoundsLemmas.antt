@@ -1,5 +1,5 @@
 -- The values of lines are within their bounds.
-use Rattle.std.proofs.Common.{◌≡◌, ◌≢◌, ℕ, ◌+◌, ◌*◌, ◌<◌, ◌≤◌, ◌^◌, ◌⊎◌, inl, inr, Bool, true, false, cond, List, [], ◌∷◌, ◌++◌, All, IsUtf8, length, map, filter, nat_lt, refl, sym, ap, ◌∙◌, subst, true≢false, arith, codes, lit≤}
+use Rattle.std.proofs.Common.{◌≡◌, ℕ, ◌<◌, ◌≤◌, ◌^◌, ◌⊎◌, inl, inr, Bool, true, false, cond, List, [], ◌∷◌, ◌++◌, All, length, map, filter, nat_lt, refl, sym, ap, subst, arith, lit≤}
 use Rattle.std.specs.List.{slice_split, onto_first}
 use Rattle.std.specs.Str.Parse.{digits_value}
 use Rattle.std.proofs.lemmas.Int.Digits.{digits_value-lt}
@@ -205,8 +205,7 @@ module _ {A B C : Type 0} {P : List ℕ → A → Type 0} {Q : List ℕ → B �
     gives = λ ws x good p.
         let words = as_words ws (p.0 ∷ p.1 ∷ p.2 ∷ []) p.3 good in
         let more_words = tail_words p.0 (p.1 ∷ p.2 ∷ []) words in
-        let last_words = tail_words p.1 (p.2 ∷ []) more_words in
-        (
+        let last_words = tail_words p.1 (p.2 ∷ []) more_words in (
           p_valid.gives p.0 x.0 (head_word p.0 (p.1 ∷ p.2 ∷ []) words) p.4,
           q_valid.gives p.1 x.1 (head_word p.1 (p.2 ∷ []) more_words) p.5,
           r_valid.gives p.2 x.2 (head_word p.2 [] last_words) p.6,
@@ -221,8 +220,7 @@ module _ {A B C : Type 0} {P : List ℕ → A → Type 0} {Q : List ℕ → B �
     gives = λ ws x good p.
         let words = as_words ws (p.0 ∷ p.1 ∷ p.2) p.3 good in
         let more_words = tail_words p.0 (p.1 ∷ p.2) words in
-        let last_words = tail_words p.1 p.2 more_words in
-        (
+        let last_words = tail_words p.1 p.2 more_words in (
           p_valid.gives p.0 x.0 (head_word p.0 (p.1 ∷ p.2) words) p.4,
           q_valid.gives p.1 x.1 (head_word p.1 p.2 more_words) p.5,
           r_valid.gives p.2 x.2 last_words p.6,

@@ -4,3 +4,4 @@ pub mod OneMeaningLemmas
 pub mod ScriptLemmas
 pub mod PrintedLemmas
 pub mod BoundsLemmas
+pub mod WrittenLemmas

@@ -1,5 +1,5 @@
 -- A script has one meaning.
-use Rattle.std.proofs.Common.{suc, ◌+◌, length, arith, ◌⊎◌, inl, inr, ◌≡◌, ℕ, if◌then◌else◌, List, [], ◌∷◌, ◌++◌, Option, Some, None, refl, true≢false, sym, ap, ap₂, ◌∙◌, subst, codes}
+use Rattle.std.proofs.Common.{suc, ◌+◌, length, ◌⊎◌, inl, inr, ◌≡◌, ℕ, if◌then◌else◌, List, [], ◌∷◌, ◌++◌, Option, Some, None, refl, true≢false, sym, ap, ap₂, ◌∙◌, subst}
 use Rattle.std.specs.Str.{bytes_eq}
 use Rattle.tm_text.specs.Words.{IsPath}
 use Rattle.tm_text.proofs.OneWordLemmas.{IsOne, same_word, name_one, text_one, value_one, number_one, events_one, steps_one, mode_one, date_one, id_one, path_one, store_path_one, item_one, snapshot_one, stored_one, target_one, owner_one}
@@ -311,6 +311,6 @@ first_bad_outside script n lines b p =
 pub first_bad_one : (script : List ℕ) (m n : ℕ) → IsFirstBad script m → IsFirstBad script n → m ≡ n
 first_bad_one script m n p q =
     let same =
-        same_first_bad p.before q.before p.bad q.bad p.after q.after p.good q.good p.spelled q.spelled p.is_bad q.is_bad (sym p.lines ∙ q.lines)
+    same_first_bad p.before q.before p.bad q.bad p.after q.after p.good q.good p.spelled q.spelled p.is_bad q.is_bad (sym p.lines ∙ q.lines)
     in
     p.number ∙ ap (λ (k : ℕ). k + 1) same ∙ sym q.number

@@ -1,6 +1,6 @@
 -- Printed words read as what was printed.
-use Rattle.std.proofs.Common.{◌≡◌, ◌≢◌, ℕ, zero, suc, ◌+◌, ◌-◌, ◌*◌, ◌/◌, ◌%◌, ◌^◌, ◌==◌, ◌<◌, ◌≤◌, ◌&&◌, not, Bool, true, false, cond, if◌then◌else◌, List, [], ◌∷◌, ◌++◌, Option, Some, None, length, map, filter, refl, sym, ap, ap₂, ◌∙◌, arith, true≢false, subst, append_assoc, append-nil, nat_lt, nat_le, ◌||◌, rules, lit<, lit≤, codes, All, length-append, get_or, nat_eq, IsTrue, ◌⊎◌, inl, inr}
-use Rattle.std.specs.List.{flat_map, slice_split, starts_with}
+use Rattle.std.proofs.Common.{◌≡◌, ◌≢◌, ℕ, zero, suc, ◌+◌, ◌/◌, ◌%◌, ◌^◌, ◌==◌, ◌<◌, ◌≤◌, ◌&&◌, Bool, true, false, cond, if◌then◌else◌, List, [], ◌∷◌, ◌++◌, Some, length, map, filter, refl, sym, ap, ◌∙◌, arith, true≢false, subst, append_assoc, append-nil, nat_lt, lit<, codes, All, length-append, get_or, nat_eq, IsTrue, ◌⊎◌, inl, inr}
+use Rattle.std.specs.List.{flat_map, starts_with}
 use Rattle.std.specs.Str.{IsUtf8, encode_utf8_all}
 use Rattle.std.specs.Char.{encode_utf8, IsScalar}
 use lib.Utf8.{scalar, scalars}
@@ -10,7 +10,7 @@ use Rattle.std.proofs.lemmas.List.Elements.{All-nil, All-cons, All-append, All-h
 use Rattle.std.proofs.lemmas.List.Splits.{slice_split_none, slice_split_at}
 use Rattle.std.proofs.lemmas.Bool.Decides.{nat_tests}
 use Rattle.percent_encoding.specs.Percent.{percent_decode}
-use Rattle.uuid.specs.Text.{parsed, hyphenated_text, lower, IsLetter}
+use Rattle.uuid.specs.Text.{lower}
 use Rattle.uuid.proofs.RoundTrips.{parses_hyphenated}
 use Rattle.uuid.proofs.OrderLemmas.{from_be_bytes-to_be_bytes_16}
 use Rattle.tm_base.specs.Days.{moment_text, last_moment}
@@ -20,8 +20,6 @@ use Rattle.tm_reply.specs.Rows.{machine_path, snapshot_path}
 use Rattle.tm_reply.proofs.EscapeLemmas.{percent_decode-printed_word}
 use Rattle.tm_text.specs.Pieces.{cut, pieces}
 use Rattle.tm_text.specs.Words.{IsNameWord, IsDate, IsId, AreNames, IsPath, IsWhich, IsStorePathParts, IsStorePath, IsSnapshot}
-use Rattle.tm_text.specs.declared.place.SnapshotAt.{SnapshotAt}
-use Rattle.tm_text.specs.declared.place.StorePath.TheVariants as store_path
 use Rattle.tm_text.specs.declared.place.Which.TheVariants as which
 
 -- P holds of each byte
@@ -137,7 +135,7 @@ unequal : (b at : ℕ) → b ≢ at → (b == at) ≡ false
 unequal b at differ = grind (arith, nat_tests)
 
 -- the words, each after a `/`
-pub slashed : List (List ℕ) → List ℕ
+unfoldable pub slashed : List (List ℕ) → List ℕ
 slashed words = flat_map (λ word. 0x2F ∷ word) words
 
 -- words that stand in a path
@@ -174,15 +172,15 @@ pieces_slashed (word ∷ words) (part some lacks rest) =
 name_slashless : (name : List ℕ) → IsName name → Every (λ b. b ≢ 0x2F) name
 name_slashless name is = weaker {P = λ b. (b ≢ 0x2F) × (b ≢ 0)} (λ b p. p.0) (record { all = is.plain })
 
-printed_parts : (names : List (List ℕ)) → All IsName names → AreParts (map printed_word names)
-printed_parts [] is = no_part
-printed_parts (name ∷ names) is =
-    let here = All-head IsName name names is in
-    let no_slash = name_slashless name here in
-    part (some_printed name here.some) (weaker (λ b differ. unequal b 0x2F differ) (slashless_printed name no_slash))
-    (printed_parts names (All-tail IsName name names is))
+pub name_part : (name : List ℕ) (words : List (List ℕ)) → IsName name → AreParts words → AreParts (printed_word name ∷ words)
+name_part name words is rest =
+    part (some_printed name is.some) (weaker (λ b differ. unequal b 0x2F differ) (slashless_printed name (name_slashless name is))) rest
 
-printed_names : (names : List (List ℕ)) → All IsName names → AreNames (map printed_word names) names
+pub name_parts : (names : List (List ℕ)) → All IsName names → AreParts (map printed_word names)
+name_parts [] is = no_part
+name_parts (name ∷ names) is = name_part name _ (All-head IsName name names is) (name_parts names (All-tail IsName name names is))
+
+pub printed_names : (names : List (List ℕ)) → All IsName names → AreNames (map printed_word names) names
 printed_names [] is = tt
 printed_names (name ∷ names) is = (name_reads name (All-head IsName name names is), printed_names names (All-tail IsName name names is))
 
@@ -191,7 +189,7 @@ unfolding slashed
 slashed-map [] = refl
 slashed-map (name ∷ names) = ap (λ (t : List ℕ). (0x2F ∷ printed_word name) ++ t) (slashed-map names)
 
-begins_with_slash : (text : List ℕ) → IsTrue (starts_with nat_eq (0x2F ∷ text) (codes "/"))
+pub begins_with_slash : (text : List ℕ) → IsTrue (starts_with nat_eq (0x2F ∷ text) (codes "/"))
 begins_with_slash [] = refl
 begins_with_slash (b ∷ text) = refl
 
@@ -201,9 +199,8 @@ path_reads [] is short = (refl, tt, short)
 path_reads (name ∷ names) is short =
     let words = map printed_word (name ∷ names) in
     let parts : pieces 0x2F (flat_map (λ n. 0x2F ∷ printed_word n) (name ∷ names)) ≡ words =
-        ap (pieces 0x2F) (sym (slashed-map (name ∷ names))) ∙ pieces_slashed words (printed_parts (name ∷ names) is)
-    in
-    (
+    ap (pieces 0x2F) (sym (slashed-map (name ∷ names))) ∙ pieces_slashed words (name_parts (name ∷ names) is)
+    in (
       begins_with_slash (printed_word name ++ flat_map (λ n. 0x2F ∷ printed_word n) names),
       subst (λ (w : List (List ℕ)). AreNames w (name ∷ names)) (sym parts) (printed_names (name ∷ names) is),
       short,
@@ -236,7 +233,7 @@ date_no_slash b (inr dash) = rw dash refl
 top_words : List ℕ → ℕ → List (List ℕ)
 top_words machine date = codes "Backups.backupdb" ∷ printed_word machine ∷ moment_text date ∷ []
 
-top_decodes : percent_decode (codes "Backups.backupdb") ≡ codes "Backups.backupdb"
+pub top_decodes : percent_decode (codes "Backups.backupdb") ≡ codes "Backups.backupdb"
 unfolding percent_decode
 top_decodes = refl
 
@@ -246,25 +243,22 @@ snapshot_path-slashed machine date =
     append_assoc (codes "/Backups.backupdb/") (printed_word machine) (0x2F ∷ moment_text date)
     ∙ ap (λ (t : List ℕ). codes "/Backups.backupdb/" ++ (printed_word machine ++ 0x2F ∷ t)) (sym (append-nil (moment_text date)))
 
-snapshot_parts : (machine : List ℕ) (date : ℕ) → IsName machine → AreParts (top_words machine date)
-unfolding top_words
-snapshot_parts machine date is =
-    let no_slash = name_slashless machine is in
-    let top : Every (λ b. (b == 0x2F) ≡ false) (codes "Backups.backupdb") =
-        more refl (more refl (more refl (more refl (more refl (more refl (more refl (more refl (more refl (more refl (more refl (more refl
-        (more refl (more refl (more refl (more refl none)))))))))))))))
-    in
-    part (lit< tt) top
-    (part (some_printed machine is.some) (weaker (λ b differ. unequal b 0x2F differ) (slashless_printed machine no_slash))
-    (part (some_date date) (weaker date_no_slash (date_bytes date)) no_part))
+pub date_part : (n : ℕ) (words : List (List ℕ)) → AreParts words → AreParts (moment_text n ∷ words)
+date_part n words rest = part (some_date n) (weaker date_no_slash (date_bytes n)) rest
+
+pub top_part : (words : List (List ℕ)) → AreParts words → AreParts (codes "Backups.backupdb" ∷ words)
+top_part words rest =
+    part (lit< tt)
+    (more refl (more refl (more refl (more refl (more refl (more refl (more refl (more refl (more refl (more refl (more refl (more refl
+    (more refl (more refl (more refl (more refl none))))))))))))))))
+    rest
 
 pub snapshot_reads : (machine : List ℕ) (date : ℕ) → IsName machine → date ≤ last_moment
     → IsSnapshot (snapshot_path machine date) (record { machine = machine; at = which.At date })
 unfolding IsSnapshot IsStorePath IsStorePathParts IsWhich IsDate top_words slashed
 snapshot_reads machine date is early =
-    let parts : pieces 0x2F (slashed (top_words machine date)) ≡ top_words machine date = pieces_slashed _ (snapshot_parts machine date is) in
-    subst (λ (w : List ℕ). IsSnapshot w (record { machine = machine; at = which.At date })) (sym (snapshot_path-slashed machine date))
-    (
+    let parts : pieces 0x2F (slashed (top_words machine date)) ≡ top_words machine date = pieces_slashed _ (top_part _ (name_part machine _ is (date_part date _ no_part))) in
+    subst (λ (w : List ℕ). IsSnapshot w (record { machine = machine; at = which.At date })) (sym (snapshot_path-slashed machine date)) (
       codes "Backups.backupdb",
       printed_word machine ∷ moment_text date ∷ [],
       refl,
@@ -286,9 +280,8 @@ high_bytes (suc k) n = more (byte_small k n) (high_bytes k n)
 pub id_reads : (id : ℕ) → id < 2 ^ 128 → IsId (printed_id id) id
 unfolding IsId printed_id
 id_reads id small =
-    let bytes = to_be_bytes w128 id in
-    (
+    let bytes = to_be_bytes w128 id in (
       small,
       ap (option_map (from_be_bytes w128)) (sym (parses_hyphenated lower bytes (inl refl) refl (high_bytes 16 id).all))
-      ∙ ap Some (from_be_bytes-to_be_bytes_16 id small),
+          ∙ ap Some (from_be_bytes-to_be_bytes_16 id small),
     )

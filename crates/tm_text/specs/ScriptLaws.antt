@@ -19,3 +19,7 @@ OneFirstBadLine = (script : List ℕ) (m n : ℕ) → IsFirstBad script m → Is
 -- each value of each line of a script is within its bounds
 abbrev pub LinesAreValid : Type 0
 LinesAreValid = (script : List ℕ) (lines : List Line) → All (λ b. b < 256) script → IsScript script lines → All IsValidLine lines
+
+-- a line whose values are within their bounds is the one line of some script
+abbrev pub ValidLinesAreWritten : Type 0
+ValidLinesAreWritten = (line : Line) → IsValidLine line → (script : List ℕ) × IsScript script (line ∷ [])

@@ -22,13 +22,18 @@ use Rattle.tm_text.specs.declared.place.Which.TheVariants as which
 unfoldable pub IsNameWord : List ℕ → List ℕ → Type 0
 IsNameWord word name = (name ≡ percent_decode word) × IsName name
 
--- TEXT: one byte or more, decoded to any bytes
+-- TEXT: it decodes to any bytes
 unfoldable pub IsText : List ℕ → List ℕ → Type 0
 IsText word bytes = bytes ≡ percent_decode word
 
 -- VALUE, where it is not left out
 unfoldable pub IsValue : List ℕ → List ℕ → Type 0
 IsValue word bytes = (bytes ≡ percent_decode word) × (length bytes ≤ 4096)
+
+-- TARGET: it decodes to 1 to 1,023 bytes of UTF-8 without NUL
+unfoldable pub IsTarget : List ℕ → List ℕ → Type 0
+IsTarget word bytes =
+    (bytes ≡ percent_decode word) × (1 ≤ length bytes) × (length bytes ≤ 1023) × IsUtf8 bytes × All (λ b. b ≢ 0) bytes
 
 -- LENGTH, SEED, COUNT, N: 1 to 20 digits, below 2^64
 unfoldable pub IsNumber : List ℕ → ℕ → Type 0
@@ -41,6 +46,10 @@ IsEvents word n = IsNumber word n × (1 ≤ n) × (n ≤ 65_536)
 -- N of `advance`: such a number that is not 0
 unfoldable pub IsSteps : List ℕ → ℕ → Type 0
 IsSteps word n = IsNumber word n × (1 ≤ n)
+
+-- UID and GID
+unfoldable pub IsOwner : List ℕ → ℕ → Type 0
+IsOwner word n = IsNumber word n × (n < 2 ^ 32)
 
 -- MODE: 1 to 4 octal digits
 unfoldable pub IsMode : List ℕ → ℕ → Type 0
@@ -85,15 +94,6 @@ unfoldable pub IsStorePath : List ℕ → StorePath → Type 0
 IsStorePath word place =
     (top : List ℕ) × (below : List (List ℕ)) × IsTrue (starts_with nat_eq word (codes "/"))
     × (pieces 0x2F word ≡ top ∷ below) × (percent_decode top ≡ codes "Backups.backupdb") × IsStorePathParts below place
-
--- TARGET: it decodes to 1 to 1,023 bytes of UTF-8 without NUL
-unfoldable pub IsTarget : List ℕ → List ℕ → Type 0
-IsTarget word bytes =
-    (bytes ≡ percent_decode word) × (1 ≤ length bytes) × (length bytes ≤ 1023) × IsUtf8 bytes × All (λ b. b ≢ 0) bytes
-
--- UID and GID
-unfoldable pub IsOwner : List ℕ → ℕ → Type 0
-IsOwner word n = IsNumber word n × (n < 2 ^ 32)
 
 -- SP of an item
 unfoldable pub IsItem : List ℕ → ItemAt → Type 0

@@ -12,7 +12,7 @@ use crate::readers::one_number;
 use crate::shapes::no_words;
 
 /// What the keyword after `fsevents` asks for.
-#[derive(Clone, Copy, Debug, PartialEq, Eq)]
+#[derive(Clone, Copy)]
 pub enum FsEventsVerb {
     /// `fsevents since`.
     Since,

@@ -15,7 +15,7 @@ use crate::readers::{
 use std::alloc::Global;
 
 /// What the one keyword asks for.
-#[derive(Clone, Copy, Debug, PartialEq, Eq)]
+#[derive(Clone, Copy)]
 pub enum ItemVerb {
     /// `mkdir`.
     Mkdir,

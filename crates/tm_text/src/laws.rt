@@ -1,6 +1,6 @@
 //! Laws of the script language.
 ghost use Rattle.tm_text.specs.ReadingLaws.{PrintedNamesRead, PrintedPathsRead, PrintedIdsRead, PrintedSnapshotsRead};
-ghost use Rattle.tm_text.specs.ScriptLaws.{OneMeaning, BadIsOutside, OneFirstBadLine, LinesAreValid};
+ghost use Rattle.tm_text.specs.ScriptLaws.{OneMeaning, BadIsOutside, OneFirstBadLine, LinesAreValid, ValidLinesAreWritten};
 
 /// A script is one list of lines at most.
 pub fn one_meaning()
@@ -20,6 +20,11 @@ pub fn one_first_bad_line()
 /// The values of a script's lines are within the bounds of their kinds of word.
 pub fn lines_are_valid()
     ensures { LinesAreValid }
+{}
+
+/// Each line whose values are within the bounds of their kinds of word can be written.
+pub fn valid_lines_are_written()
+    ensures { ValidLinesAreWritten }
 {}
 
 /// A printed name reads as that name.

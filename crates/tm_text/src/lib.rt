@@ -20,7 +20,7 @@ mod words;
 
 pub use laws::{
     bad_is_outside, lines_are_valid, one_first_bad_line, one_meaning, printed_ids_read,
-    printed_names_read, printed_paths_read, printed_snapshots_read,
+    printed_names_read, printed_paths_read, printed_snapshots_read, valid_lines_are_written,
 };
 pub use line::{Line, Lines};
 pub use place::{ItemAt, SnapshotAt, StorePath, Stored, Which};

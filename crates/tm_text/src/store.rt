@@ -13,7 +13,7 @@ use crate::shapes::no_words;
 use std::alloc::Global;
 
 /// What the keyword after `store` asks for.
-#[derive(Clone, Copy, Debug, PartialEq, Eq)]
+#[derive(Clone, Copy)]
 pub enum StoreVerb {
     /// `store ls`.
     Ls,

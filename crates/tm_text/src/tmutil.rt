@@ -14,7 +14,7 @@ use crate::words::path;
 use std::alloc::Global;
 
 /// What the keyword after `tmutil` asks for.
-#[derive(Clone, Copy, Debug, PartialEq, Eq)]
+#[derive(Clone, Copy)]
 pub enum TmutilVerb {
     /// `tmutil startbackup`.
     StartBackup,

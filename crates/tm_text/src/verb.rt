@@ -17,7 +17,7 @@ use crate::tmutil::{TmutilVerb, tmutil_line, tmutil_verb};
 use std::alloc::Global;
 
 /// What a line's keywords ask for.
-#[derive(Clone, Copy, Debug, PartialEq, Eq)]
+#[derive(Clone, Copy)]
 pub enum Verb {
     /// One keyword, on moments, formatting and backups in steps.
     Session(SessionVerb),
