@@ -2,3 +2,4 @@ pub mod WalkSteps
 pub mod ItemLemmas
 pub mod Passes
 pub mod LastLemmas
+pub mod RunLemmas

@@ -1,2 +1,3 @@
 pub mod ItemsOf
 pub mod Entries
+pub mod Runs

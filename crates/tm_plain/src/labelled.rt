@@ -2,15 +2,17 @@
 ghost use Rattle.std.specs.Prelude.{◌≡◌, [], ◌∷◌, IfOk, MatchOption, map};
 ghost use Rattle.tm_plain.specs.Entries.{named};
 ghost use Rattle.tm_tree.specs.Copies.{bare, copy, copied_label, is_same_at, label_or};
+ghost use Rattle.std.specs.Option.{option_copied};
+ghost use Rattle.tm_plain.specs.Runs.{run_beneath};
 ghost use Rattle.tm_tree.specs.Listings.{listing, entries_of};
-ghost use Rattle.tm_tree.specs.Trees.{at, beneath};
+ghost use Rattle.tm_tree.specs.Trees.{at};
 ghost use Rattle.tm_tree.specs.Walks.{walk, Finds};
 
 use crate::items::{self, Entry};
 use crate::tree::Tree;
 use std::alloc::{AllocError, Global};
 use std::collections::BTreeMap;
-use std::collections::btree_map::Iter;
+use std::collections::btree_map::Range;
 use std::marker::Model;
 use tm_base::{LineFault, Path};
 use tm_tree::{Item, Labelled, Listing};
@@ -41,6 +43,13 @@ impl LabelledTree {
             alloc,
             items: BTreeMap::new(alloc),
         }
+    }
+
+    /// What stands at a path, with its label; none where nothing does. It takes no memory.
+    pub fn get(&self, path: &Path) -> Option<&Labelled>
+        ensures { option_copied result ≡ at self.now path.now }
+    {
+        self.items.get(path)
     }
 
     /// The item that the walk down a path comes to, as [`Tree::find`].
@@ -105,8 +114,8 @@ impl LabelledTree {
     fn is_same_at(&self, now: &Tree, path: &Path) -> bool
         ensures { result ≡ is_same_at self.now now.now path.now }
     {
-        let mut olds = self.items.iter();
-        let mut news = now.items().iter();
+        let mut olds = self.items.range(path..);
+        let mut news = now.items().range(path..);
         while let Some((at, item)) = next_beneath(&mut news, path) {
             let Some((old_at, old)) = next_beneath(&mut olds, path) else {
                 return false;
@@ -119,15 +128,15 @@ impl LabelledTree {
     }
 }
 
-// The next row of those at a path or beneath it.
-fn next_beneath<'a, V>(rows: &mut Iter<'a, Path, V>, path: &Path) -> Option<(&'a Path, &'a V)>
-    ensures { MatchOption result (beneath rows.old path.now ≡ [])
-        (λ row. beneath rows.old path.now ≡ (row.0.now, row.1.now) ∷ beneath rows.new path.now) }
+// The next of the rows from a path on, if it stands there or beneath; after these come all others.
+fn next_beneath<'a, V>(rows: &mut Range<'a, Path, V>, path: &Path) -> Option<(&'a Path, &'a V)>
+    ensures { MatchOption result (run_beneath path.now rows.old ≡ [])
+        (λ row. run_beneath path.now rows.old ≡ (row.0.now, row.1.now) ∷ run_beneath path.now rows.new) }
 {
-    while let Some((at, value)) = rows.next() {
-        if path.is_prefix_of(at) {
-            return Some((at, value));
-        }
+    let (at, value) = rows.next()?;
+    if path.is_prefix_of(at) {
+        Some((at, value))
+    } else {
+        None
     }
-    None
 }

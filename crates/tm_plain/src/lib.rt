@@ -17,3 +17,6 @@ pub use labelled::LabelledTree;
 pub use store::{Snapshot, Store};
 pub use tree::Tree;
 pub use volume::Volume;
+
+#[cfg(test)]
+mod tests;
