@@ -1,5 +1,5 @@
 -- From any node with links a way leads up to a root.
-use Rattle.std.proofs.Common.{zero, suc, ◌≡◌, ℕ, ◌+◌, ◌-◌, ◌<◌, ◌^◌, true, false, cond, Option, Some, None, is_some, List, [], ◌∷◌, refl, sym, arith, subst, ⊎_elim, ◌==◌, if◌then◌else◌}
+use Rattle.std.proofs.Common.{zero, suc, ◌≡◌, ◌≢◌, ℕ, ◌+◌, ◌-◌, ◌<◌, ◌^◌, true, false, cond, Option, Some, None, is_some, List, [], ◌∷◌, refl, sym, arith, subst, ⊎_elim, ◌==◌, if◌then◌else◌}
 use Rattle.std.specs.Option.{option_map, unwrap_or}
 use Rattle.std.specs.List.{AllByRecursion}
 use Rattle.std.specs.List.Sorted.{IsStrictlySortedBy}
@@ -90,8 +90,8 @@ root_links-left g root gone is linked goes q =
     let links = links-left g root gone q is goes in
     let fits = lost-le g root gone q is linked goes.greatest_first in
     ⊎_elim
-    (λ e. let f : (q == root) ≡ true = grind (arith, nat_tests) in rw f (omega (arith, names, links, fits, lost_root g root gone q e)))
-    (λ ne. let f : (q == root) ≡ false = grind (arith, nat_tests) in rw f (omega (arith, names, links, fits, lost_other g root gone q ne)))
+    (λ (e : q ≡ root). let f : (q == root) ≡ true = grind (arith, nat_tests) in rw f (omega (arith, names, links, fits, lost_root g root gone q e)))
+    (λ (ne : q ≢ root). let f : (q == root) ≡ false = grind (arith, nat_tests) in rw f (omega (arith, names, links, fits, lost_other g root gone q ne)))
     (cases_eq q root)
 
 pub linked-left : (g : Nodes) (root : ℕ) (gone : List ℕ) → IsGraph g → IsGone g root gone → IsLinked g → IsLinked (left g root gone)

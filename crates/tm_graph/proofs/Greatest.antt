@@ -1,5 +1,5 @@
 -- The greatest number in use.
-use Rattle.std.proofs.Common.{suc, ◌≡◌, ℕ, ◌+◌, ◌-◌, ◌<◌, ◌≤◌, ◌^◌, true, false, cond, Some, is_some, List, [], ◌∷◌, length, refl, sym, ap, ◌∙◌, arith, subst}
+use Rattle.std.proofs.Common.{suc, ◌≡◌, ℕ, ◌+◌, ◌-◌, ◌<◌, ◌≤◌, ◌^◌, true, false, cond, Some, is_some, [], ◌∷◌, length, refl, sym, ap, ◌∙◌, arith, subst}
 use Rattle.std.specs.declared.cmp.Ordering.TheVariants.{Less}
 use Rattle.std.specs.Ordering.{nat_cmp}
 use Rattle.std.specs.List.{AllByRecursion}
@@ -46,6 +46,17 @@ of_all P (row ∷ g) q h t =
 
 pub to_greatest : (g : Nodes) (q : ℕ) → Sorted g → is_some (node g q) ≡ true → q ≤ greatest g
 to_greatest g q s t = of_all (λ k. k ≤ greatest g) g q (all_to_greatest g s) t
+
+pub none_is_graph : IsGraph []
+unfolding IsStrictlySortedBy
+none_is_graph = record {
+  in_order = tt;
+  rises = λ n row e. absurd (cc e);
+  falls = λ n q l. refl;
+  counted = λ q. omega arith;
+  few = λ q. omega arith;
+  low = λ q t. absurd (cc t);
+}
 
 -- what a graph with one node more has
 pub adds : (g : Nodes) (label : ℕ) (body : NodeBody) → IsGraph g → greatest g < 2 ^ 62 → MayHold g (body_entries body) → Adds g (added g label body) (greatest g + 1) (new_node label body) body

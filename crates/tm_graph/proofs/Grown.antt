@@ -10,10 +10,10 @@ use Rattle.std.proofs.lemmas.Bool.{cases_eq}
 use Rattle.std.proofs.lemmas.Bool.Decides.{nat_tests}
 use Rattle.tm_tree.specs.declared.node.NodeRow.{NodeRow}
 use Rattle.tm_tree.specs.declared.node.Child.{Child}
-use Rattle.tm_graph.specs.Nodes.{Nodes, node, names, named, row_names, links_of, IsGraph, with_links, entries_of, times, gained, more, linked_at, linked, MayHold, NamesRise, root_links}
+use Rattle.tm_graph.specs.Nodes.{Nodes, node, names, named, row_names, links_of, IsGraph, with_links, entries_of, times, gained, more, MayHold, NamesRise, root_links}
 use Rattle.tm_graph.proofs.Taken.{Sorted, at}
 use Rattle.tm_graph.proofs.Same.{same_nodes, at-put, sorted_put, sorted-mapped, at-mapped}
-use Rattle.tm_graph.proofs.Shape.{same_named, same_entries, same_shape, EntriesRise, rises_alike, rises_some}
+use Rattle.tm_graph.proofs.Shape.{same_named, same_entries, EntriesRise, rises_alike, rises_some}
 
 abbrev links_in : Option NodeRow → ℕ
 links_in o = unwrap_or (option_map (λ row. row.links) o) 0

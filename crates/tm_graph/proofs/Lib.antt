@@ -8,5 +8,8 @@ pub mod Linked
 pub mod Greatest
 pub mod Named
 pub mod Room
+pub mod PlaceAt
+pub mod PlaceOrder
+pub mod WaysFound
 pub mod Climbs
 pub mod OneGone

@@ -1,7 +1,6 @@
 -- A graph with a root link more is a graph.
-use Rattle.std.proofs.Common.{zero, suc, ◌≡◌, ◌≢◌, ℕ, ◌+◌, ◌-◌, ◌≤◌, ◌<◌, ◌^◌, Bool, true, false, cond, Option, Some, None, is_some, refl, sym, ap, ◌∙◌, arith, nat_eq, subst, ⊎_elim, ◌==◌, if◌then◌else◌}
-use Rattle.std.specs.Option.{option_map, unwrap_or, IsSome}
-use Rattle.std.specs.Map.{set_value, keys_of}
+use Rattle.std.proofs.Common.{◌≡◌, ℕ, ◌+◌, ◌≤◌, ◌<◌, ◌^◌, true, false, cond, Option, Some, None, is_some, refl, sym, ap, ◌∙◌, arith, nat_eq, subst, ⊎_elim, ◌==◌, if◌then◌else◌}
+use Rattle.std.specs.Option.{option_map, unwrap_or}
 use Rattle.std.specs.BTreeMap.{is_at}
 use Rattle.std.specs.Ordering.{nat_cmp, eq_by_cmp}
 use Rattle.std.specs.Cmp.{eq_by_cmp_equiv, nat_cmp_total}
@@ -11,7 +10,7 @@ use Rattle.std.proofs.lemmas.Bool.Decides.{nat_tests}
 use Rattle.tm_tree.specs.declared.node.NodeRow.{NodeRow}
 use Rattle.tm_graph.specs.Nodes.{Nodes, node, names, named, links_of, root_links, IsGraph, entries_of, more, linked_at, linked}
 use Rattle.tm_graph.specs.Reads.{LinksRoot}
-use Rattle.tm_graph.proofs.Taken.{Sorted, at, at_is}
+use Rattle.tm_graph.proofs.Taken.{Sorted, at_is}
 use Rattle.tm_graph.proofs.Shape.{same_named, same_shape, EntriesRise, rises_alike}
 
 abbrev links_in : Option NodeRow → ℕ

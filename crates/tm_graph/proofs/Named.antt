@@ -1,9 +1,7 @@
 -- A search by halves finds the entry of a name.
-use Rattle.std.proofs.Common.{zero, suc, add-one, ◌≡◌, ℕ, ◌+◌, ◌<◌, ◌≤◌, Bool, true, false, cond, Some, None, List, [], ◌∷◌, length, get_or, map, refl, sym, ap, ◌∙◌, arith, subst, ⊎_elim}
-use Rattle.std.specs.declared.cmp.Ordering.{Ordering}
+use Rattle.std.proofs.Common.{zero, suc, ◌≡◌, ℕ, ◌+◌, ◌<◌, Some, None, List, [], ◌∷◌, length, get_or, map, refl, sym, ap, ◌∙◌, arith, subst, ⊎_elim}
 use Rattle.std.specs.declared.cmp.Ordering.TheVariants.{Less, Equal, Greater}
 use Rattle.std.specs.Ordering.{nat_cmp, ordering_reverse, is_lt, ordering_index, eq_by_cmp}
-use Rattle.std.specs.Cmp.{IsTotalOrder}
 use Rattle.std.specs.Cmp.Rules.{comparing}
 use Rattle.std.specs.Cmp.Lexicographic.{lists_ties, nat_list_cmp_total}
 use Rattle.std.specs.FinMap.{slice_cmp-IsAntisymmetric, nat_cmp-IsAntisymmetric}
@@ -42,7 +40,7 @@ pub searchable : (es : List Child) (name : List ℕ) → NamesRise es → IsNonD
 searchable es name h = searchable_from_sorted nat_list_cmp_total (λ child. child.name) es name sorted
   where
     sorted : IsSortedBy (λ a b. is_lt (name_cmp a.name b.name)) es
-    sorted k d l m = 
+    sorted k d l m =
         let low : k < k + 1 = omega arith in
         let less = rises es k (k + 1) d h low m in
         ap is_lt (nat_list_cmp_total.antisymm (get_or es (k + 1) d).name (get_or es k d).name ∙ ap ordering_reverse less)

@@ -1,5 +1,5 @@
 -- What stands under each number after a change that adds.
-use Rattle.std.specs.Prelude.{◌≡◌, ◌≢◌, ℕ, ◌+◌, ◌<◌, ◌^◌, ◌==◌, if◌then◌else◌, Option, Some, is_some, true}
+use Rattle.std.specs.Prelude.{◌≡◌, ◌≢◌, ℕ, ◌+◌, ◌<◌, ◌^◌, ◌==◌, if◌then◌else◌, Some, is_some, true}
 use Rattle.std.specs.Option.{option_map}
 use Rattle.tm_tree.specs.declared.node.NodeBody.{NodeBody}
 use Rattle.tm_tree.specs.declared.node.NodeRow.{NodeRow}

@@ -11,11 +11,7 @@ use std::collections::BTreeMap;
 use tm_tree::{Attrs, Child, Entries, NodeBody, NodeRow};
 
 /// Puts a node under a number.
-pub fn put(
-    nodes: &mut BTreeMap<u64, NodeRow>,
-    number: u64,
-    row: NodeRow,
-) -> Result<(), AllocError>
+pub fn put(nodes: &mut BTreeMap<u64, NodeRow>, number: u64, row: NodeRow) -> Result<(), AllocError>
     ensures ok { OnOk result (nodes.new.entries ≡ insert_entry nat_cmp nodes.old.entries number row) }
     ensures err { OnErr result (nodes.new.entries ≡ nodes.old.entries) }
 {

@@ -8,6 +8,7 @@ use crate::built::{Gone, NodeRows};
 use crate::gains::{add_folder_to, gain, put};
 use crate::holds::may_hold;
 use crate::losses::{apply, collect};
+use crate::roots::{links_of, named};
 use std::alloc::{AllocError, Global};
 use std::collections::BTreeMap;
 use std::marker::Model;
@@ -86,6 +87,14 @@ impl Graph {
         ensures { option_copied result ≡ node self.now number }
     {
         self.nodes.get(&number.0)
+    }
+
+    /// How many root links a node has, 0 where it isn't there: its links less the entries that name it.
+    /// It looks at every entry, and takes no memory.
+    pub fn root_links(&self, number: NodeId) -> u64
+        ensures { result ≡ root_links self.now number }
+    {
+        links_of(&self.nodes, number.0) - named(&self.nodes, number.0)
     }
 
     /// The greatest number in use, 0 in an empty graph. It takes no memory.

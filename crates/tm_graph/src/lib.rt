@@ -8,11 +8,17 @@ mod graph;
 mod holds;
 mod laws;
 mod losses;
+mod roots;
 mod row;
 mod walk;
 
 pub use built::{Built, Gone, NodeBlobs, NodeRows};
 pub use graph::Graph;
-pub use laws::{added_reads, gone_is_one, leaves_linked, linked_reads, nodes_are_reached};
+pub use laws::{
+    added_reads, gone_is_one, leaves_linked, linked_reads, nodes_are_reached, rows_stand, ways_find,
+};
 pub use row::children_of;
 pub use walk::Walk;
+
+#[cfg(test)]
+mod tests;

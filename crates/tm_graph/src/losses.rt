@@ -82,10 +82,7 @@ fn is_spent(links: u64, count: u64) -> bool
 }
 
 /// Counts one more for each of the entries.
-pub fn count_all(
-    counts: &mut BTreeMap<u64, u64>,
-    children: &[Child],
-) -> Result<(), AllocError>
+pub fn count_all(counts: &mut BTreeMap<u64, u64>, children: &[Child]) -> Result<(), AllocError>
     requires { (q : ℕ) → unwrap_or (get nat_cmp counts.old q) 0 + times q children.now < 2 ^ 64 }
     ensures { OnOk result ((q : ℕ) → unwrap_or (get nat_cmp counts.new q) 0 ≡ unwrap_or (get nat_cmp counts.old q) 0 + times q children.now) }
 {

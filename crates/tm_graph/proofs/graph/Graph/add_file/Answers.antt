@@ -3,7 +3,7 @@ use Rattle.std.specs.Ordering.{nat_cmp}
 use Rattle.std.specs.BTreeMap.{insert_entry}
 use Rattle.tm_tree.specs.declared.node.NodeBody.TheVariants.{Leaf}
 use Rattle.tm_tree.specs.declared.node.NodeRow.{NodeRow}
-use Rattle.tm_graph.specs.Nodes.{IsGraph, Nodes, node, greatest, gained, new_node, MayHold}
+use Rattle.tm_graph.specs.Nodes.{IsGraph, Nodes, node, greatest, gained, new_node}
 use Rattle.tm_graph.proofs.Grown.{grown_is_graph, gained_none, may_hold_none}
 use Rattle.tm_graph.proofs.graph.Graph.add_file.Goals as goal
 

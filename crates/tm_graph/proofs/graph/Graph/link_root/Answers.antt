@@ -1,5 +1,3 @@
-use Rattle.std.proofs.Common.{◌≡◌, ◌+◌, ◌∙◌, ap}
-use Rattle.tm_graph.specs.Nodes.{Nodes, root_links}
 use Rattle.tm_graph.proofs.Linked.{linked_is_graph, root_links-linked}
 use Rattle.tm_graph.proofs.graph.Graph.link_root.Goals as goal
 

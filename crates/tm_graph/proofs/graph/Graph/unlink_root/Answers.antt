@@ -1,6 +1,5 @@
-use Rattle.std.proofs.Common.{◌∙◌, sym, ap, subst}
-use Rattle.tm_graph.specs.Nodes.{Nodes, IsGraph}
-use Rattle.tm_graph.specs.Losing.{left}
+use Rattle.std.proofs.Common.{sym, subst}
+use Rattle.tm_graph.specs.Nodes.{IsGraph}
 use Rattle.tm_graph.proofs.Left.{is_left, left_is_graph}
 use Rattle.tm_graph.proofs.graph.Graph.unlink_root.Goals as goal
 
