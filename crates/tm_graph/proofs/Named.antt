@@ -22,6 +22,20 @@ name_ties = lists_ties nat_cmp (search (comparing, rules))
 pub name_is : (a b : List ℕ) → name_cmp a b ≡ Equal → a ≡ b
 name_is a b e = slice_cmp-IsAntisymmetric nat_cmp-IsAntisymmetric a b e
 
+-- names that rise, case by case
+abbrev pub RiseEach : List Child → Type 0
+RiseEach [] = Unit {0}
+RiseEach (child ∷ es) = AllByRecursion (λ other. name_cmp child.name other.name ≡ Less) es × RiseEach es
+
+pub rise_each : (es : List Child) → NamesRise es → RiseEach es
+unfolding IsStrictlySortedBy
+rise_each [] h = tt
+rise_each (child ∷ es) h = (each es h.0, rise_each es h.1)
+  where
+    each : (es : List Child) → AllByRecursion (λ name. name_cmp child.name name ≡ Less) (map (λ c. c.name) es) → AllByRecursion (λ other. name_cmp child.name other.name ≡ Less) es
+    each [] h = tt
+    each (c ∷ es) h = (h.0, each es h.1)
+
 -- entries further on have greater names
 pub rises : (es : List Child) (i j : ℕ) (d : Child) → NamesRise es → i < j → j < length es → name_cmp (get_or es i d).name (get_or es j d).name ≡ Less
 unfolding IsStrictlySortedBy

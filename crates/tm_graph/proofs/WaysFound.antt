@@ -35,11 +35,13 @@ times_named (child ∷ es) name m e =
     first : child.node ≡ m → times m (child ∷ es) ≡ cond (child.node == m) 1 0 + times m es → 0 < times m (child ∷ es)
     first e more = let t : (child.node == m) ≡ true = grind (arith, nat_tests) in let one : ◌≡◌ {A = ℕ} (cond (child.node == m) 1 0) 1 = ap (λ b. cond b 1 0) t in omega (arith, more, one)
 
--- so it is there
-pub child_there : (g : Nodes) (n : ℕ) (name : List ℕ) (m : ℕ) → IsGraph g → child_of (node g n) name ≡ Some m → is_some (node g m) ≡ true
-child_there g n name m is e =
-    let often : 0 < names m (node g n) = by_node (node g n) e in
-    there g m (omega (arith, is.counted m, sum_by-remove_entry (row_names m) (is_at (nat_cmp n)) g, often))
+-- what is named is there
+pub named_there : (g : Nodes) (n m : ℕ) → IsGraph g → 0 < names m (node g n) → is_some (node g m) ≡ true
+named_there g n m is often = there g m (omega (arith, is.counted m, sum_by-remove_entry (row_names m) (is_at (nat_cmp n)) g))
+
+-- so a child is there
+pub child_there : (g : Nodes) (n m : ℕ) (name : List ℕ) → IsGraph g → child_of (node g n) name ≡ Some m → is_some (node g m) ≡ true
+child_there g n m name is e = named_there g n m is (by_node (node g n) e)
   where
     by_node : (o : Option NodeRow) → child_of o name ≡ Some m → 0 < names m o
     by_node None e = absurd (cc e)
@@ -76,7 +78,7 @@ ways_found g n m (name ∷ p) is t =
       )
       | Some k ↦ λ e.
           let goes = ap (λ r. onward r (λ k. down g k p)) (child_steps (node g n) name k e) in
-          let rest = ways_found g k m p is (child_there g n name k is e) in
+          let rest = ways_found g k m p is (child_there g n k name is e) in
           (λ h. rest.0 (sym goes ∙ h), λ h. goes ∙ rest.1 h)
     ] refl
   where

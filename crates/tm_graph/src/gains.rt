@@ -12,7 +12,8 @@ use tm_tree::{Attrs, Child, Entries, NodeBody, NodeRow};
 
 /// Puts a node under a number.
 pub fn put(nodes: &mut BTreeMap<u64, NodeRow>, number: u64, row: NodeRow) -> Result<(), AllocError>
-    ensures ok { OnOk result (nodes.new.entries ≡ insert_entry nat_cmp nodes.old.entries number row) }
+    ensures ok { OnOk result (nodes.new.entries
+        ≡ insert_entry nat_cmp nodes.old.entries number row) }
     ensures err { OnErr result (nodes.new.entries ≡ nodes.old.entries) }
 {
     nodes.insert(number, row)?;
@@ -23,8 +24,10 @@ pub fn put(nodes: &mut BTreeMap<u64, NodeRow>, number: u64, row: NodeRow) -> Res
 pub fn gain(nodes: &mut BTreeMap<u64, NodeRow>, number: u64)
     requires { links_of nodes.old.entries number < 2 ^ 62 }
     ensures entries { nodes.new.entries ≡ linked nodes.old.entries number }
-    ensures here { node nodes.new.entries number ≡ option_map (more 1) (node nodes.old.entries number) }
-    ensures others { (q : ℕ) → (number ≡ q → ⊥) → node nodes.new.entries q ≡ node nodes.old.entries q }
+    ensures here { node nodes.new.entries number
+        ≡ option_map (more 1) (node nodes.old.entries number) }
+    ensures others { (q : ℕ) → (number ≡ q → ⊥)
+        → node nodes.new.entries q ≡ node nodes.old.entries q }
     ensures in_order { IsOrdered nat_cmp nodes.new }
 {
     if let Some(row) = nodes.get_mut(&number) {
@@ -37,7 +40,8 @@ pub fn gain(nodes: &mut BTreeMap<u64, NodeRow>, number: u64)
 /// A link more for each of the entries.
 fn gain_all(nodes: &mut BTreeMap<u64, NodeRow>, children: &[Child])
     requires { (q : ℕ) → links_of nodes.old.entries q + times q children.now ≤ 2 ^ 62 }
-    ensures each { (q : ℕ) → node nodes.new.entries q ≡ option_map (more (times q children.now)) (node nodes.old.entries q) }
+    ensures each { (q : ℕ) → node nodes.new.entries q
+        ≡ option_map (more (times q children.now)) (node nodes.old.entries q) }
     ensures in_order { IsOrdered nat_cmp nodes.new }
 {
     for child in children {
@@ -59,8 +63,10 @@ pub fn add_folder_to(
     requires new { node nodes.old.entries number ≡ None }
     requires not_itself { times number entries ≡ 0 }
     requires children { (q : ℕ) → links_of nodes.old.entries q + times q entries ≤ 2 ^ 62 }
-    ensures here { OnOk result (node nodes.new.entries number ≡ Some (new_node label (NodeBody.Folder attrs entries))) }
-    ensures others { OnOk result ((q : ℕ) → (number ≡ q → ⊥) → node nodes.new.entries q ≡ option_map (more (times q entries)) (node nodes.old.entries q)) }
+    ensures here { OnOk result (node nodes.new.entries number
+        ≡ Some (new_node label (NodeBody.Folder attrs entries))) }
+    ensures others { OnOk result ((q : ℕ) → (number ≡ q → ⊥) → node nodes.new.entries q
+        ≡ option_map (more (times q entries)) (node nodes.old.entries q)) }
     ensures in_order { OnOk result (IsOrdered nat_cmp nodes.new) }
     ensures err { OnErr result (nodes.new.entries ≡ nodes.old.entries) }
 {

@@ -1,5 +1,5 @@
 //! The graph of the nodes.
-ghost use Rattle.std.specs.Prelude.{◌≡◌, ◌↔◌, ℕ, ◌<◌, ◌+◌, ◌-◌, ◌≤◌, ◌^◌, IfOk, OnOk, OnErr, IsTrue, MatchOption, is_some, length, true, None, Some, []};
+ghost use Rattle.std.specs.Prelude.{◌≡◌, ◌↔◌, ℕ, ◌<◌, ◌+◌, ◌-◌, ◌≤◌, ◌^◌, IfOk, OnOk, OnErr, IsTrue, IfNone, IfSome, is_some, length, true, None, Some, []};
 ghost use Rattle.std.specs.Option.{option_copied, option_map};
 ghost use Rattle.tm_graph.specs.Nodes.{IsGraph, MayHold, added, greatest, linked, links_of, node, root_links};
 ghost use Rattle.tm_graph.specs.Losing.{IsGone, left};
@@ -61,16 +61,10 @@ impl Graph {
         })
     }
 
-    /// What holds of every graph. It takes no memory.
-    pub fn is_counted(&self)
-        ensures { IsGraph self.now }
-    {
-        let _ = self.nodes.len();
-    }
-
     /// How many nodes there are. It takes no memory.
     pub fn len(&self) -> usize
-        ensures { result ≡ length self.now }
+        ensures count { result ≡ length self.now }
+        ensures graph { IsGraph self.now }
     {
         self.nodes.len()
     }
@@ -84,7 +78,8 @@ impl Graph {
 
     /// The node of a number; none exactly where there is none. It takes no memory.
     pub fn node(&self, number: NodeId) -> Option<&NodeRow>
-        ensures { option_copied result ≡ node self.now number }
+        ensures found { option_copied result ≡ node self.now number }
+        ensures graph { IsGraph self.now }
     {
         self.nodes.get(&number.0)
     }
@@ -110,9 +105,11 @@ impl Graph {
 
     /// The node with the least number that isn't below `least`. It takes no memory.
     pub fn node_from(&self, least: u64) -> Option<NodeId>
-        ensures { MatchOption result ((q : ℕ) → least ≤ q → node self.now q ≡ None)
-            (λ number. (least ≤ number) × (is_some (node self.now number) ≡ true)
-            × ((q : ℕ) → least ≤ q → q < number → node self.now q ≡ None)) }
+        ensures none { IfNone result ((q : ℕ) → least ≤ q → node self.now q ≡ None) }
+        ensures there { IfSome result (λ number. is_some (node self.now number) ≡ true) }
+        ensures from { IfSome result (λ number. least ≤ number) }
+        ensures first { IfSome result (λ number. (q : ℕ) → least ≤ q → q < number
+            → node self.now q ≡ None) }
     {
         match self.nodes.range(least..).next() {
             Some((number, _)) => Some(NodeId(*number)),
@@ -129,14 +126,17 @@ impl Graph {
         ensures err { OnErr result (self.new ≡ self.old) }
     {
         let number = self.greatest() + 1;
-        let links = 0;
-        let body = NodeBody::Leaf(row);
-        put(&mut self.nodes, number, NodeRow { label, links, body })?;
+        let row = NodeRow {
+            label,
+            links: 0,
+            body: NodeBody::Leaf(row),
+        };
+        put(&mut self.nodes, number, row)?;
         Ok(NodeId(number))
     }
 
     /// Whether a new folder may have these entries: names rise, and each entry's node is there and may
-    /// have so many links more.
+    /// have so many links more. Only want of memory can refuse the answer.
     pub fn may_hold(&self, entries: &Entries) -> Result<bool, AllocError>
         ensures { IfOk result (λ may. IsTrue may ↔ MayHold self.now entries.now) }
     {

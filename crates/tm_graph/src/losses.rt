@@ -30,7 +30,8 @@ pub fn collect(
     requires graph { IsGraph nodes.now.entries }
     requires linked { 0 < root_links nodes.now.entries root }
     ensures gone { IfOk result (λ losses. IsGone nodes.now.entries root losses.gone.items) }
-    ensures counts { IfOk result (λ losses. (q : ℕ) → unwrap_or (get nat_cmp losses.counts q) 0 ≡ lost nodes.now.entries root losses.gone.items q) }
+    ensures counts { IfOk result (λ losses. (q : ℕ) → unwrap_or (get nat_cmp losses.counts q) 0
+        ≡ lost nodes.now.entries root losses.gone.items q) }
 {
     let mut counts = BTreeMap::new(alloc);
     counts.insert(root, 1)?;
@@ -50,7 +51,8 @@ pub fn collect(
 
 /// Takes the links from the nodes, and the nodes that have none left.
 pub fn apply(nodes: &mut BTreeMap<u64, NodeRow>, mut counts: BTreeMap<u64, u64>)
-    ensures each { (q : ℕ) → node nodes.new.entries q ≡ less (unwrap_or (get nat_cmp counts q) 0) (node nodes.old.entries q) }
+    ensures each { (q : ℕ) → node nodes.new.entries q
+        ≡ less (unwrap_or (get nat_cmp counts q) 0) (node nodes.old.entries q) }
     ensures in_order { IsOrdered nat_cmp nodes.new }
 {
     while let Some((number, count)) = counts.pop_last() {
@@ -62,7 +64,8 @@ pub fn apply(nodes: &mut BTreeMap<u64, NodeRow>, mut counts: BTreeMap<u64, u64>)
 
 fn lose(nodes: &mut BTreeMap<u64, NodeRow>, number: u64, count: u64)
     ensures here { node nodes.new.entries number ≡ less count (node nodes.old.entries number) }
-    ensures others { (q : ℕ) → (number ≡ q → ⊥) → node nodes.new.entries q ≡ node nodes.old.entries q }
+    ensures others { (q : ℕ) → (number ≡ q → ⊥)
+        → node nodes.new.entries q ≡ node nodes.old.entries q }
 {
     let spent = match nodes.get(&number) {
         Some(row) => is_spent(row.links, count),
@@ -84,7 +87,8 @@ fn is_spent(links: u64, count: u64) -> bool
 /// Counts one more for each of the entries.
 pub fn count_all(counts: &mut BTreeMap<u64, u64>, children: &[Child]) -> Result<(), AllocError>
     requires { (q : ℕ) → unwrap_or (get nat_cmp counts.old q) 0 + times q children.now < 2 ^ 64 }
-    ensures { OnOk result ((q : ℕ) → unwrap_or (get nat_cmp counts.new q) 0 ≡ unwrap_or (get nat_cmp counts.old q) 0 + times q children.now) }
+    ensures { OnOk result ((q : ℕ) → unwrap_or (get nat_cmp counts.new q) 0
+        ≡ unwrap_or (get nat_cmp counts.old q) 0 + times q children.now) }
 {
     for child in children {
         let node = child.node;
@@ -99,7 +103,8 @@ fn last_below(counts: &BTreeMap<u64, u64>, above: u64) -> Option<(u64, u64)>
     ensures none { IfNone result ((q : ℕ) → q < above → get nat_cmp counts.now q ≡ None) }
     ensures below { IfSome result (λ last. last.0 < above) }
     ensures found { IfSome result (λ last. get nat_cmp counts.now last.0 ≡ Some last.1) }
-    ensures greatest { IfSome result (λ last. (q : ℕ) → last.0 < q → q < above → get nat_cmp counts.now q ≡ None) }
+    ensures greatest { IfSome result (λ last. (q : ℕ) → last.0 < q → q < above
+        → get nat_cmp counts.now q ≡ None) }
 {
     match counts.range(..above).next_back() {
         Some((number, count)) => Some((*number, *count)),

@@ -32,7 +32,6 @@ impl Graph {
     fn child_of(&self, number: NodeId, name: &Name) -> Result<NodeId, Walk>
         ensures { result ≡ step (node self.now number) name.now }
     {
-        self.is_counted();
         let Some(row) = self.node(number) else {
             return Err(Walk::NotFound);
         };
