@@ -4,18 +4,12 @@ use std::alloc::Global;
 use std::process::Abort;
 use std::test::Fail;
 use tm_base::{Moment, Name, Path};
-use tm_tree::{Attrs, Child, Entries, Extras, LeafRow, NodeBody, NodeId, NodeRow};
+use tm_tree::{Attrs, Child, Entries, LeafRow, NodeBody, NodeId, NodeRow};
 
 const LIMIT: u64 = 4_611_686_018_427_387_904;
 
 fn attrs(alloc: Global) -> Result<Attrs, Fail> {
-    Ok(Attrs {
-        mode: 0o755,
-        uid: 501,
-        gid: 20,
-        modified: Moment::from_seconds(0).ok_or("moment")?,
-        extra: Extras::new(alloc),
-    })
+    Ok(Attrs::new(alloc, 0o755, Moment::from_seconds(0).ok_or("moment")?))
 }
 
 fn file(alloc: Global, length: u64) -> Result<LeafRow, Fail> {

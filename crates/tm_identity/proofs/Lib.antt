@@ -8,4 +8,5 @@ pub mod Alone
 pub mod Shared
 pub mod Reach
 pub mod Once
+pub mod Fits
 pub mod Worked

@@ -207,7 +207,7 @@ module _ (g : Nodes) (roots : List ℕ) (st : IsStore g roots) where
       two [] a b = tt
       two (o ∷ es) a b = ((a.0, b.0), two es a.1 b.1)
 
-  distinct_nums : (depth r n : ℕ) (p : Names) → n < depth → Stands g roots r p n → IsDistinct nat_eq (nums depth g n)
+  pub distinct_nums : (depth r n : ℕ) (p : Names) → n < depth → Stands g roots r p n → IsDistinct nat_eq (nums depth g n)
   unfolding IsDistinct
   distinct_nums zero r n p l s = tt
   distinct_nums (suc depth) r n p l s = by_node (node g n) refl (λ c x low child. distinct_nums depth r c (p ++ x ∷ []) low (child_stands g roots st r n c p x s child))

@@ -1,5 +1,7 @@
 -- Unique bytes are told by links alone.
-use Rattle.std.specs.Prelude.{◌≡◌, ℕ, zero, suc, ◌+◌, ◌==◌, if◌then◌else◌, Option, Some, None, List, [], ◌∷◌, ◌++◌, sum_by}
+use Rattle.std.specs.Prelude.{◌≡◌, ◌≤◌, true, nat_eq, ℕ, zero, suc, ◌+◌, ◌==◌, if◌then◌else◌, Option, Some, None, List, [], ◌∷◌, ◌++◌, sum_by}
+use Rattle.std.specs.Map.{values_of}
+use Rattle.std.specs.Set.{is_member}
 use Rattle.tm_base.specs.Paths.{Names}
 use Rattle.tm_tree.specs.declared.item.Labelled.{Labelled}
 use Rattle.tm_tree.specs.declared.node.NodeRow.{NodeRow}
@@ -35,3 +37,7 @@ abbrev pub UniqueIsCounted : Type 0
 UniqueIsCounted = (v : ℕ → NodeRow → Labelled) (g : Nodes) (before after : List ℕ) (r n : ℕ) (p : Names)
     → Labels v g → Lengths v g → IsStore g (before ++ r ∷ after) → number_at g r p ≡ Some n
     → unique_bytes (trees_of v g (before ++ after)) (rows_of v g r) p ≡ only_at g r p
+
+-- no more bytes are unique than are stored
+abbrev pub UniqueFits : Type 0
+UniqueFits = (g : Nodes) (roots : List ℕ) → IsStore g roots → (r : ℕ) (p : Names) → is_member nat_eq roots r ≡ true → only_at g r p ≤ sum_by node_length (values_of g)

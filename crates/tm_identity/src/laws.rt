@@ -2,7 +2,7 @@
 ghost use Rattle.tm_identity.specs.Stores.{IdentitiesAreNodes, NodesStand};
 ghost use Rattle.tm_identity.specs.Links.{LinksAreCounted};
 ghost use Rattle.tm_identity.specs.Stored.{StoredIsCounted};
-ghost use Rattle.tm_identity.specs.Uniques.{UniqueIsCounted};
+ghost use Rattle.tm_identity.specs.Uniques.{UniqueFits, UniqueIsCounted};
 ghost use Rattle.tm_identity.specs.Removals.{RemovalKeeps};
 ghost use Rattle.tm_identity.specs.Additions.{AdditionKeeps};
 
@@ -30,6 +30,11 @@ pub fn stored_is_counted()
 /// Unique bytes are told by links alone.
 pub fn unique_is_counted()
     ensures { UniqueIsCounted }
+{}
+
+/// No more bytes are unique than are stored.
+pub fn unique_fits()
+    ensures { UniqueFits }
 {}
 
 /// A store less a snapshot is a store, and the other trees stay.

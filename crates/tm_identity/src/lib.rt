@@ -6,5 +6,5 @@ mod laws;
 
 pub use laws::{
     addition_keeps, identities_are_nodes, links_are_counted, nodes_stand, removal_keeps,
-    stored_is_counted, unique_is_counted,
+    stored_is_counted, unique_fits, unique_is_counted,
 };
