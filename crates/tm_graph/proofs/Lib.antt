@@ -1,0 +1,15 @@
+pub mod Taken
+pub mod Same
+pub mod Lost
+pub mod Shape
+pub mod Left
+pub mod Grown
+pub mod Linked
+pub mod Greatest
+pub mod Named
+pub mod Room
+pub mod PlaceAt
+pub mod PlaceOrder
+pub mod WaysFound
+pub mod Climbs
+pub mod OneGone

@@ -1,0 +1,24 @@
+//! Shared nodes: what snapshots have in common is kept once, and counted
+//! (`docs/DEFINITIONS.md`, "Nodes and links").
+#![tactic(auto)]
+
+mod built;
+mod gains;
+mod graph;
+mod holds;
+mod laws;
+mod losses;
+mod roots;
+mod row;
+mod walk;
+
+pub use built::{Built, Gone, NodeBlobs, NodeRows};
+pub use graph::Graph;
+pub use laws::{
+    added_reads, gone_is_one, leaves_linked, linked_reads, nodes_are_reached, rows_stand, ways_find,
+};
+pub use row::children_of;
+pub use walk::Walk;
+
+#[cfg(test)]
+mod tests;

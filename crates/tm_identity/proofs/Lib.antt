@@ -1,0 +1,12 @@
+pub mod Kept
+pub mod Grows
+pub mod Parents
+pub mod Holders
+pub mod Counted
+pub mod Others
+pub mod Alone
+pub mod Shared
+pub mod Reach
+pub mod Once
+pub mod Fits
+pub mod Worked
