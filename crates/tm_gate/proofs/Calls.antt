@@ -1,5 +1,5 @@
 -- The four calls of a turn, one after another.
-use Rattle.std.proofs.Common.{◌≡◌, ℕ, ◌+◌, ◌-◌, ◌≤◌, List, Result, Ok, refl, sym, ◌∙◌, ap, subst, arith}
+use Rattle.std.proofs.Common.{◌≡◌, ℕ, ◌+◌, ◌-◌, ◌≤◌, List, Result, Ok, sym, ◌∙◌, ap, subst, arith}
 use Rattle.tm_world.specs.Disk.{Disk, DiffersAt, written, synced}
 use Rattle.tm_world.specs.Outside.{disk, put_disk}
 use Rattle.tm_world.specs.Log.{Log, now, Steps, Writes}

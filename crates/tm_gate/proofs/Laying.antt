@@ -1,8 +1,9 @@
 -- The parts of a slot, laid one after another over zeros.
-use Rattle.std.proofs.Common.{◌≡◌, ℕ, ◌+◌, ◌-◌, ◌≤◌, List, [], ◌∷◌, ◌++◌, length, take, drop, replicate, refl, sym, ◌∙◌, ap, arith, length-append, append_assoc}
+use Rattle.std.proofs.Common.{◌≡◌, ℕ, ◌+◌, ◌-◌, List, [], ◌∷◌, ◌++◌, length, take, drop, replicate, refl, sym, ◌∙◌, ap, arith, length-append, append_assoc}
 use Rattle.std.proofs.lemmas.List.{take_at, drop_at, drop-replicate, replicate-append-replicate}
 use Rattle.std.specs.Int.{w32, w64, to_be_bytes}
 use borrow.Rule.Slice.PartMut.{put_mid, post_of}
+use Rattle.tm_codec.specs.Fields.{u32_text, u64_text}
 use Rattle.tm_gate.specs.declared.root.Root.{Root}
 use Rattle.tm_gate.specs.Slot.{magic, slot_of}
 
@@ -35,7 +36,7 @@ laid_parts s m h f q l t zeros lm lh lf lq ll =
 pub laid : (root : Root) (s x h f q l t : List ℕ) → s ≡ replicate 4096 0 → x ≡ magic → h ≡ root.kind ∷ root.version ∷ [] → f ≡ to_be_bytes w32 root.first
     → q ≡ to_be_bytes w64 root.sequence → l ≡ to_be_bytes w64 root.table_len → t ≡ root.tag
     → put_mid 32 64 (put_mid 24 8 (put_mid 16 8 (put_mid 12 4 (put_mid 8 2 (x ++ post_of 0 8 s) h) f) q) l) t ≡ slot_of root
-unfolding slot_of
+unfolding slot_of u32_text u64_text
 laid root s x h f q l t zeros ex eh ef eq el et =
     (λ i. put_mid 32 64 (put_mid 24 8 (put_mid 16 8 (put_mid 12 4 (put_mid 8 2 (ex i ++ post_of 0 8 s) (eh i)) (ef i)) (eq i)) (el i)) (et i))
     ∙ laid_parts s magic (root.kind ∷ root.version ∷ []) (to_be_bytes w32 root.first) (to_be_bytes w64 root.sequence) (to_be_bytes w64 root.table_len) root.tag zeros refl refl refl refl refl

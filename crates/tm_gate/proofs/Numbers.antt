@@ -1,9 +1,10 @@
 -- Big endian numbers of any length.
-use Rattle.std.proofs.Common.{◌≡◌, ℕ, zero, suc, ◌+◌, ◌*◌, ◌^◌, ◌<◌, ◌≤◌, List, [], ◌∷◌, ◌++◌, length, get_or, take, drop, replicate, fold, refl, sym, ◌∙◌, ap, subst, arith}
+use Rattle.std.proofs.Common.{◌≡◌, ℕ, zero, suc, ◌+◌, ◌*◌, ◌^◌, ◌<◌, ◌≤◌, List, [], ◌∷◌, length, get_or, take, drop, replicate, fold, refl, sym, ◌∙◌, ap, arith}
 use Rattle.std.proofs.lemmas.List.{take-append-drop}
 use Rattle.std.proofs.lemmas.List.Sums.{fold_more, fold-append}
-use Rattle.std.proofs.lemmas.Nat.{from_be_bytes-to_be_bytes_4, from_be_bytes-to_be_bytes_8}
-use Rattle.std.specs.Int.{w32, w64, to_be_bytes, from_be_bytes}
+use Rattle.std.proofs.lemmas.Nat.{be_bytes_8, from_be_bytes-to_be_bytes_4, from_be_bytes-to_be_bytes_8}
+use Rattle.std.specs.Int.{w32, w64, from_be_bytes}
+use Rattle.tm_codec.specs.Fields.{u32_text, u64_text}
 use Rattle.tm_gate.specs.Fields.{number}
 
 abbrev more : ℕ → ℕ → ℕ
@@ -57,14 +58,15 @@ eight : (a b c d e f g h : ℕ) → number (a ∷ b ∷ c ∷ d ∷ e ∷ f ∷ 
 unfolding number
 eight a b c d e f g h = omega arith
 
-pub number-to_be_bytes_4 : (n : ℕ) → n < 2 ^ 32 → number (to_be_bytes w32 n) ≡ n
-number-to_be_bytes_4 n fits = four _ _ _ _ ∙ from_be_bytes-to_be_bytes_4 n fits
+pub number-u32_text : (n : ℕ) → n < 2 ^ 32 → number (u32_text n) ≡ n
+unfolding u32_text
+number-u32_text n fits = four _ _ _ _ ∙ from_be_bytes-to_be_bytes_4 n fits
 
-pub number-to_be_bytes_8 : (n : ℕ) → n < 2 ^ 64 → number (to_be_bytes w64 n) ≡ n
-number-to_be_bytes_8 n fits = eight _ _ _ _ _ _ _ _ ∙ from_be_bytes-to_be_bytes_8 n fits
+pub number-u64_text : (n : ℕ) → n < 2 ^ 64 → number (u64_text n) ≡ n
+unfolding u64_text
+number-u64_text n fits = eight _ _ _ _ _ _ _ _ ∙ from_be_bytes-to_be_bytes_8 n fits
 
--- eight bytes as a list
-pub number_eight : (bytes : List ℕ) → length bytes ≡ 8 → number bytes ≡ from_be_bytes w64 bytes
+number_eight : (bytes : List ℕ) → length bytes ≡ 8 → number bytes ≡ from_be_bytes w64 bytes
 number_eight [] l = absurd (omega arith)
 number_eight (a ∷ []) l = absurd (omega arith)
 number_eight (a ∷ b ∷ []) l = absurd (omega arith)
@@ -75,3 +77,16 @@ number_eight (a ∷ b ∷ c ∷ d ∷ e ∷ f ∷ []) l = absurd (omega arith)
 number_eight (a ∷ b ∷ c ∷ d ∷ e ∷ f ∷ g ∷ []) l = absurd (omega arith)
 number_eight (a ∷ b ∷ c ∷ d ∷ e ∷ f ∷ g ∷ h ∷ []) l = eight a b c d e f g h
 number_eight (a ∷ b ∷ c ∷ d ∷ e ∷ f ∷ g ∷ h ∷ x ∷ bytes) l = absurd (omega arith)
+
+-- eight bytes are the text of their number
+pub u64_text-number : (bytes : List ℕ) → length bytes ≡ 8 → ((i : ℕ) → get_or bytes i 0 < 256) → u64_text (number bytes) ≡ bytes
+unfolding u64_text
+u64_text-number bytes long small = be_bytes_8 bytes (number bytes) long small (number_eight bytes long)
+
+pub length-u32_text : (n : ℕ) → length (u32_text n) ≡ 4
+unfolding u32_text
+length-u32_text n = refl
+
+pub length-u64_text : (n : ℕ) → length (u64_text n) ≡ 8
+unfolding u64_text
+length-u64_text n = refl

@@ -1,19 +1,18 @@
 -- A root within its bounds is a good slot, and the other way round.
-use Rattle.std.proofs.Common.{◌≡◌, ℕ, ◌+◌, ◌-◌, ◌*◌, ◌^◌, ◌<◌, ◌≤◌, List, [], ◌∷◌, ◌++◌, length, slice_index, get_or, take, drop, replicate, cond, eqb, true, None, refl, sym, ◌∙◌, ap, subst, arith}
+use Rattle.std.proofs.Common.{◌≡◌, ℕ, ◌+◌, ◌-◌, ◌*◌, ◌^◌, ◌<◌, ◌≤◌, List, [], ◌∷◌, ◌++◌, length, slice_index, get_or, take, drop, replicate, cond, eqb, true, refl, sym, ◌∙◌, ap, subst, arith}
 use Rattle.std.proofs.Math.Seq.{take-add}
 use Rattle.std.proofs.lemmas.Bool.Decides.{nat_tests}
 use Rattle.std.proofs.lemmas.List.{drop_more, take_all, take_at, drop_at, take-append-le, drop-append-le, length-drop, length-replicate, get_or_append_left}
-use Rattle.std.proofs.lemmas.Nat.{be_bytes_8}
-use Rattle.std.specs.Int.{w32, w64, to_be_bytes}
+use Rattle.tm_codec.specs.Fields.{u32_text, u64_text}
 use Rattle.tm_world.specs.declared.world.Side.{Side}
 use Rattle.tm_world.specs.declared.world.Side.TheVariants.{Volume, Store}
 use Rattle.tm_gate.specs.declared.root.Root.{Root}
 use Rattle.tm_gate.specs.declared.field.Field.{Field}
-use Rattle.tm_gate.specs.Slot.{magic, HasMagic, slot_of}
+use Rattle.tm_gate.specs.Slot.{HasMagic, slot_of, after_root}
 use Rattle.tm_gate.specs.Tag.{latest, volume_tag, IsVolumeTag, IsStoreTag, IsTag}
 use Rattle.tm_gate.specs.Fields.{number, bytes_at, is_kept, field, zeros, tag_fields, fields, kind_of, IsGoodSlot}
 use Rattle.tm_gate.specs.Load.{IsRoot}
-use Rattle.tm_gate.proofs.Numbers.{zeros_from, number_eight, number_one, number-replicate, number-to_be_bytes_4, number-to_be_bytes_8}
+use Rattle.tm_gate.proofs.Numbers.{zeros_from, u64_text-number, number_one, number-replicate, number-u32_text, number-u64_text}
 use Rattle.tm_gate.proofs.Kept.{AllKept, kept_from_none, none_from_kept, bounds, keeps}
 use Rattle.tm_gate.proofs.Spelling.{length-bytes_at, small_at}
 
@@ -26,13 +25,18 @@ pub record HasNumbers (tag : List ℕ) (flag second third : ℕ) : Type 0 where
   pub rest : number (bytes_at 24 40 tag) ≡ 0
 
 numbers_of : (flag second third : ℕ) → second < 2 ^ 64 → third < 2 ^ 64 → HasNumbers (volume_tag flag second third) flag second third
+unfolding u64_text
 numbers_of flag second third fits2 fits3 = record {
   flag_is = number_one flag;
   gap = number-replicate 7;
-  second_is = number-to_be_bytes_8 second fits2;
-  third_is = number-to_be_bytes_8 third fits3;
+  second_is = number-u64_text second fits2;
+  third_is = number-u64_text third fits3;
   rest = number-replicate 40;
 }
+
+length-volume_tag : (flag second third : ℕ) → length (volume_tag flag second third) ≡ 64
+unfolding u64_text
+length-volume_tag flag second third = refl
 
 pub flag_number : (tag : List ℕ) → length tag ≡ 64 → number (bytes_at 0 1 tag) ≡ get_or tag 0 0
 flag_number tag long = ap (λ r. number (take 1 r)) (drop_more tag 0 0 (omega arith)) ∙ number_one (get_or tag 0 0)
@@ -46,13 +50,13 @@ tag_spelled tag long small gap rest =
     let rest_is : bytes_at 24 40 tag ≡ replicate 40 0 = zeros_from (bytes_at 24 40 tag) 40 (length-bytes_at 24 40 tag (omega arith)) rest in
     let long8 : length (bytes_at 8 8 tag) ≡ 8 = length-bytes_at 8 8 tag (omega arith) in
     let long16 : length (bytes_at 16 8 tag) ≡ 8 = length-bytes_at 16 8 tag (omega arith) in
-    let second : to_be_bytes w64 (number (bytes_at 8 8 tag)) ≡ bytes_at 8 8 tag =
-    be_bytes_8 (bytes_at 8 8 tag) (number (bytes_at 8 8 tag)) long8 (small_at 8 8 tag (omega arith) small) (number_eight (bytes_at 8 8 tag) long8) in
-    let third : to_be_bytes w64 (number (bytes_at 16 8 tag)) ≡ bytes_at 16 8 tag =
-    be_bytes_8 (bytes_at 16 8 tag) (number (bytes_at 16 8 tag)) long16 (small_at 16 8 tag (omega arith) small) (number_eight (bytes_at 16 8 tag) long16) in
+    let second : u64_text (number (bytes_at 8 8 tag)) ≡ bytes_at 8 8 tag =
+    u64_text-number (bytes_at 8 8 tag) long8 (small_at 8 8 tag (omega arith) small) in
+    let third : u64_text (number (bytes_at 16 8 tag)) ≡ bytes_at 16 8 tag =
+    u64_text-number (bytes_at 16 8 tag) long16 (small_at 16 8 tag (omega arith) small) in
     let p8 : take 8 tag ≡ get_or tag 0 0 ∷ replicate 7 0 = take-add 1 7 tag ∙ (λ i. one i ++ gap_is i) in
-    let p16 : take 16 tag ≡ get_or tag 0 0 ∷ replicate 7 0 ++ to_be_bytes w64 (number (bytes_at 8 8 tag)) = take-add 8 8 tag ∙ (λ i. p8 i ++ sym second i) in
-    let p24 : take 24 tag ≡ get_or tag 0 0 ∷ replicate 7 0 ++ to_be_bytes w64 (number (bytes_at 8 8 tag)) ++ to_be_bytes w64 (number (bytes_at 16 8 tag)) =
+    let p16 : take 16 tag ≡ get_or tag 0 0 ∷ replicate 7 0 ++ u64_text (number (bytes_at 8 8 tag)) = take-add 8 8 tag ∙ (λ i. p8 i ++ sym second i) in
+    let p24 : take 24 tag ≡ get_or tag 0 0 ∷ replicate 7 0 ++ u64_text (number (bytes_at 8 8 tag)) ++ u64_text (number (bytes_at 16 8 tag)) =
     take-add 16 8 tag ∙ (λ i. p16 i ++ sym third i) in
     sym (take_all 64 tag (omega arith)) ∙ take-add 24 40 tag ∙ (λ i. p24 i ++ rest_is i)
 
@@ -62,61 +66,61 @@ inside at size xs ys within = ap (take size) (drop-append-le at xs ys (omega ari
 -- the parts of a root's slot
 module _ (root : Root) where
   at_8 : number (bytes_at 8 1 (slot_of root)) ≡ root.kind
-  unfolding slot_of
+  unfolding slot_of u32_text u64_text
   at_8 = number_one root.kind
 
   at_9 : number (bytes_at 9 1 (slot_of root)) ≡ root.version
-  unfolding slot_of
+  unfolding slot_of u32_text u64_text
   at_9 = number_one root.version
 
   at_10 : number (bytes_at 10 2 (slot_of root)) ≡ 0
-  unfolding slot_of
+  unfolding slot_of u32_text u64_text
   at_10 = number-replicate 2
 
   at_12 : root.first < 2 ^ 32 → number (bytes_at 12 4 (slot_of root)) ≡ root.first
-  unfolding slot_of
-  at_12 fits = number-to_be_bytes_4 root.first fits
+  unfolding slot_of u32_text u64_text
+  at_12 fits = number-u32_text root.first fits
 
   at_16 : root.sequence < 2 ^ 64 → number (bytes_at 16 8 (slot_of root)) ≡ root.sequence
-  unfolding slot_of
-  at_16 fits = number-to_be_bytes_8 root.sequence fits
+  unfolding slot_of u32_text u64_text
+  at_16 fits = number-u64_text root.sequence fits
 
   at_24 : root.table_len < 2 ^ 64 → number (bytes_at 24 8 (slot_of root)) ≡ root.table_len
-  unfolding slot_of
-  at_24 fits = number-to_be_bytes_8 root.table_len fits
+  unfolding slot_of u32_text u64_text
+  at_24 fits = number-u64_text root.table_len fits
 
   module _ (long : length root.tag ≡ 64) where
     pub tag_at : bytes_at 32 64 (slot_of root) ≡ root.tag
-    unfolding slot_of
+    unfolding slot_of u32_text u64_text
     tag_at = take_at root.tag (replicate 4000 0) 64 long
 
     at_32 : bytes_at 32 1 (slot_of root) ≡ bytes_at 0 1 root.tag
-    unfolding slot_of
+    unfolding slot_of u32_text u64_text
     at_32 = inside 0 1 root.tag (replicate 4000 0) (omega arith)
 
     at_33 : bytes_at 33 7 (slot_of root) ≡ bytes_at 1 7 root.tag
-    unfolding slot_of
+    unfolding slot_of u32_text u64_text
     at_33 = inside 1 7 root.tag (replicate 4000 0) (omega arith)
 
     at_40 : bytes_at 40 8 (slot_of root) ≡ bytes_at 8 8 root.tag
-    unfolding slot_of
+    unfolding slot_of u32_text u64_text
     at_40 = inside 8 8 root.tag (replicate 4000 0) (omega arith)
 
     at_48 : bytes_at 48 8 (slot_of root) ≡ bytes_at 16 8 root.tag
-    unfolding slot_of
+    unfolding slot_of u32_text u64_text
     at_48 = inside 16 8 root.tag (replicate 4000 0) (omega arith)
 
     at_56 : bytes_at 56 40 (slot_of root) ≡ bytes_at 24 40 root.tag
-    unfolding slot_of
+    unfolding slot_of u32_text u64_text
     at_56 = inside 24 40 root.tag (replicate 4000 0) (omega arith)
 
     at_96 : number (bytes_at 96 4000 (slot_of root)) ≡ 0
-    unfolding slot_of
+    unfolding slot_of u32_text u64_text
     at_96 = ap (λ r. number (take 4000 r)) (drop_at root.tag (replicate 4000 0) 64 long)
         ∙ ap number (take_all 4000 (replicate 4000 0) (omega (arith, length-replicate 4000 (let z : ℕ = 0 in z)))) ∙ number-replicate 4000
 
     flag_at : get_or (slot_of root) 32 0 ≡ get_or root.tag 0 0
-    unfolding slot_of
+    unfolding slot_of u32_text u64_text
     flag_at = get_or_append_left root.tag (replicate 4000 0) 0 0 (omega arith)
 
 -- the date of a store, where a backup runs and where none does
@@ -200,7 +204,7 @@ tag_kept : (root : Root) (flag second third : ℕ) → root.tag ≡ volume_tag f
     → (low2 high2 high3 : ℕ) → low2 ≤ second → second ≤ high2 → 1 ≤ third → third ≤ high3
     → AllKept (slot_of root) (field 32 1 0 1 ∷ zeros 33 7 ∷ field 40 8 low2 high2 ∷ field 48 8 1 high3 ∷ zeros 56 40 ∷ zeros 96 4000 ∷ [])
 tag_kept root flag second third is fits2 fits3 mark low2 high2 high3 least2 most2 least3 most3 =
-    let long : length root.tag ≡ 64 = ap length is in
+    let long : length root.tag ≡ 64 = ap length is ∙ length-volume_tag flag second third in
     let numbers : HasNumbers root.tag flag second third = subst (λ tag. HasNumbers tag flag second third) (sym is) (numbers_of flag second third fits2 fits3) in
     let s = slot_of root in (
       keeps s (field 32 1 0 1) flag (ap number (at_32 root long) ∙ numbers.flag_is) (omega arith) mark,
@@ -223,7 +227,7 @@ kept_from_tag : (side : Side) (root : Root) → IsTag side root.tag → AllKept 
 kept_from_tag Volume root tag = tag_kept root tag.clean tag.generation tag.next tag.is (omega (arith, tag.generation_most)) (omega (arith, tag.next_most)) tag.clean_most
     1 (2 ^ 62 - 1) (2 ^ 62) tag.generation_least (omega (arith, tag.generation_most)) tag.next_least tag.next_most
 kept_from_tag Store root tag =
-    let long : length root.tag ≡ 64 = ap length tag.is in
+    let long : length root.tag ≡ 64 = ap length tag.is ∙ length-volume_tag tag.running tag.date tag.number in
     let flag : slice_index (slot_of root) 32 ≡ tag.running = flag_at root long ∙ ap (λ t. get_or t 0 0) tag.is in
     tag_kept root tag.running tag.date tag.number tag.is (omega (arith, tag.date_most)) (omega (arith, tag.number_most)) tag.running_most
     0 (cond (eqb (slice_index (slot_of root) 32) 0) 0 latest) (2 ^ 40) (omega arith)
@@ -250,12 +254,12 @@ good_from_root side blocks root fits is =
     )
 
 pub has_magic : (root : Root) → HasMagic (slot_of root)
-unfolding slot_of
+unfolding slot_of u32_text u64_text
 has_magic root = refl
 
 tag_long : (side : Side) (tag : List ℕ) → IsTag side tag → length tag ≡ 64
-tag_long Volume tag is = ap length is.is
-tag_long Store tag is = ap length is.is
+tag_long Volume tag is = ap length is.is ∙ length-volume_tag is.clean is.generation is.next
+tag_long Store tag is = ap length is.is ∙ length-volume_tag is.running is.date is.number
 
 pub one_root : (side : Side) (blocks : ℕ) (r s : Root) → blocks < 2 ^ 32 → IsRoot side blocks r → IsRoot side blocks s
     → r.sequence < 2 ^ 64 → s.sequence < 2 ^ 64 → slot_of r ≡ slot_of s → r ≡ s
@@ -268,3 +272,14 @@ one_root side blocks r s fits is_r is_s fits_r fits_s same =
     let first : r.first ≡ s.first = sym (at_12 r (omega (arith, is_r.first_most))) ∙ ap (λ x. number (bytes_at 12 4 x)) same ∙ at_12 s (omega (arith, is_s.first_most)) in
     let tag : r.tag ≡ s.tag = sym (tag_at r (tag_long side r.tag is_r.tag)) ∙ ap (bytes_at 32 64) same ∙ tag_at s (tag_long side s.tag is_s.tag) in
     λ i. record { kind = kind i; version = version i; sequence = sequence i; table_len = table_len i; first = first i; tag = tag i }
+
+pub IsRoot-after_root : (side : Side) (blocks : ℕ) (old root : Root) → IsRoot side blocks root → IsRoot side blocks (after_root old root)
+IsRoot-after_root side blocks old root is = record {
+  kind = is.kind;
+  version = is.version;
+  first_least = is.first_least;
+  first_most = is.first_most;
+  length_least = is.length_least;
+  length_most = is.length_most;
+  tag = is.tag;
+}

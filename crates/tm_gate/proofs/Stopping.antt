@@ -1,6 +1,6 @@
 -- What a stop leaves of the disks that a turn goes through.
-use Rattle.std.proofs.Common.{◌≡◌, ◌≢◌, inl, inr, ⊎_elim, ◌⊎◌, ℕ, ◌+◌, ◌-◌, ◌%◌, ◌<◌, ◌≤◌, Bool, true, false, cond, eqb, List, refl, sym, ◌∙◌, ap, subst, arith}
-use Rattle.std.proofs.lemmas.Bool.{cond-true, cond-false, cases_eq, eq-eqb, ne_eqb}
+use Rattle.std.proofs.Common.{◌≡◌, ◌≢◌, inl, inr, ⊎_elim, ◌⊎◌, ℕ, ◌+◌, ◌-◌, ◌≤◌, List, sym, ◌∙◌, ap, arith}
+use Rattle.std.proofs.lemmas.Bool.{cases_eq}
 use Rattle.tm_world.specs.Disk.{Disk, Image, IsLeft, written, synced}
 use Rattle.tm_world.specs.Disk.{DiffersAt}
 use Rattle.tm_world.proofs.Disks.{bytes_here, differs-written, bytes_synced, loose_synced, count_synced}

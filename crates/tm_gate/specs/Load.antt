@@ -18,11 +18,15 @@ pub record IsBadGate (side : Side) (blocks : ℕ) (bytes : ℕ → List ℕ) (pl
   pub formatted : HasMagic (named_slot bytes)
   pub bad : IsBadSlot side blocks (named_slot bytes) place
 
--- the selector names this slot, which is good and spells this root
-pub record IsGoodGate (side : Side) (blocks : ℕ) (bytes : ℕ → List ℕ) (gate : Gate) : Type 0 where
+-- the named slot has the magic, and none of its fields is bad
+pub record IsGoodGate (side : Side) (blocks : ℕ) (bytes : ℕ → List ℕ) : Type 0 where
+  pub formatted : HasMagic (named_slot bytes)
+  pub good : IsGoodSlot side blocks (named_slot bytes)
+
+-- the selector names this slot, which spells this root
+pub record Shows (bytes : ℕ → List ℕ) (gate : Gate) : Type 0 where
   pub selected : named_by (bytes 0) ≡ gate.named
   pub holds : bytes gate.named ≡ slot_of gate.root
-  pub good : IsGoodSlot side blocks (bytes gate.named)
 
 -- the root of an image of so many blocks: its fields are within their bounds
 pub record IsRoot (side : Side) (blocks : ℕ) (root : Root) : Type 0 where

@@ -1,6 +1,6 @@
 -- What the 64 bytes of a tag say.
-use Rattle.std.specs.Prelude.{◌≡◌, ℕ, ◌<◌, ◌≤◌, ◌^◌, List, [], ◌∷◌, ◌++◌, replicate}
-use Rattle.std.specs.Int.{w64, to_be_bytes}
+use Rattle.std.specs.Prelude.{◌≡◌, ℕ, ◌<◌, ◌≤◌, ◌^◌, List, ◌∷◌, ◌++◌, replicate}
+use Rattle.tm_codec.specs.Fields.{u64_text}
 use Rattle.tm_world.specs.declared.world.Side.{Side}
 use Rattle.tm_world.specs.declared.world.Side.TheVariants.{Volume, Store}
 
@@ -10,7 +10,7 @@ latest = 253402300799
 
 -- whether a volume was closed cleanly, its generation, and its next number
 abbrev pub volume_tag : ℕ → ℕ → ℕ → List ℕ
-volume_tag clean generation next = clean ∷ replicate 7 0 ++ to_be_bytes w64 generation ++ to_be_bytes w64 next ++ replicate 40 0
+volume_tag clean generation next = clean ∷ replicate 7 0 ++ u64_text generation ++ u64_text next ++ replicate 40 0
 
 pub record IsVolumeTag (tag : List ℕ) : Type 0 where
   pub clean : ℕ
@@ -25,7 +25,7 @@ pub record IsVolumeTag (tag : List ℕ) : Type 0 where
 
 -- whether a store has a running backup, its date in seconds, and the number of the next backup
 abbrev pub store_tag : ℕ → ℕ → ℕ → List ℕ
-store_tag running date number = running ∷ replicate 7 0 ++ to_be_bytes w64 date ++ to_be_bytes w64 number ++ replicate 40 0
+store_tag running date number = running ∷ replicate 7 0 ++ u64_text date ++ u64_text number ++ replicate 40 0
 
 pub record IsStoreTag (tag : List ℕ) : Type 0 where
   pub running : ℕ

@@ -5,8 +5,17 @@ ghost use Rattle.tm_gate.specs.Fields.{number, is_kept, field, zeros, tag_fields
 use crate::root::{VERSION, kind_of};
 use tm_world::Side;
 
-/// The last second of the year 9999.
-const LATEST: u64 = 253_402_300_799;
+/// The greatest generation of a volume.
+const MAX_GENERATION: u64 = (1 << 62) - 1;
+
+/// The greatest next number of a volume.
+const MAX_NEXT: u64 = 1 << 62;
+
+/// The greatest date of a backup in seconds: the last of the year 9999.
+const MAX_DATE: u64 = 253_402_300_799;
+
+/// The greatest number of a backup.
+const MAX_BACKUP: u64 = 1 << 40;
 
 /// A field of a slot: a number, big endian, with the bounds that it keeps. A run of zeros is one
 /// field, whose number is 0.
@@ -61,28 +70,28 @@ impl Field {
     }
 }
 
-/// The fields of a tag whose first byte is `flag`: a volume's mark, generation and next number, or
-/// whether a store's backup runs, its date, which is 0 where none runs, and the next number.
+/// The fields of a tag whose first byte is `flag`. A volume has its mark, its generation and its
+/// next number. A store has whether a backup runs, its date, which is 0 where none runs, and the
+/// number of the next backup.
 fn tag_fields(side: Side, flag: u8) -> [Field; 5]
     ensures { result ≡ tag_fields side flag }
 {
-    let (second, third) = match side {
-        Side::Volume => (
-            Field::number(40, 8, 1, (1 << 62) - 1),
-            Field::number(48, 8, 1, 1 << 62),
-        ),
-        Side::Store => (
-            Field::number(40, 8, 0, if flag == 0 { 0 } else { LATEST }),
-            Field::number(48, 8, 1, 1 << 40),
-        ),
-    };
-    [
-        Field::number(32, 1, 0, 1),
-        Field::zeros(33, 7),
-        second,
-        third,
-        Field::zeros(56, 40),
-    ]
+    match side {
+        Side::Volume => [
+            Field::number(32, 1, 0, 1),
+            Field::zeros(33, 7),
+            Field::number(40, 8, 1, MAX_GENERATION),
+            Field::number(48, 8, 1, MAX_NEXT),
+            Field::zeros(56, 40),
+        ],
+        Side::Store => [
+            Field::number(32, 1, 0, 1),
+            Field::zeros(33, 7),
+            Field::number(40, 8, 0, if flag == 0 { 0 } else { MAX_DATE }),
+            Field::number(48, 8, 1, MAX_BACKUP),
+            Field::zeros(56, 40),
+        ],
+    }
 }
 
 /// The fields of a slot that have a rule, by rising offset, in an image of so many blocks.
@@ -94,7 +103,7 @@ fn fields(side: Side, blocks: u32, flag: u8) -> [Field; 11]
     let kind = u64::from(kind_of(side));
     let version = u64::from(VERSION);
     let blocks = u64::from(blocks);
-    let [mark, after_mark, second, third, after_tag] = tag_fields(side, flag);
+    let [mark, after_mark, first_number, second_number, after_tag] = tag_fields(side, flag);
     [
         Field::number(8, 1, kind, kind),
         Field::number(9, 1, version, version),
@@ -103,8 +112,8 @@ fn fields(side: Side, blocks: u32, flag: u8) -> [Field; 11]
         Field::number(24, 8, 1, 4092 * (blocks - 3)),
         mark,
         after_mark,
-        second,
-        third,
+        first_number,
+        second_number,
         after_tag,
         Field::zeros(96, 4000),
     ]

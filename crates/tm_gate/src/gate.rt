@@ -4,7 +4,7 @@ ghost use Rattle.std.specs.Prelude.{◌≤◌};
 use crate::root::Root;
 
 /// The slot that the selector names, 1 or 2, and the root that it holds.
-#[derive(Drop)]
+#[derive(Clone, Copy, Debug, PartialEq, Eq)]
 pub struct Gate {
     /// The block of the slot that the selector names.
     pub named: u8,

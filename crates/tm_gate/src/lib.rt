@@ -10,7 +10,10 @@ mod root;
 mod turning;
 
 pub use gate::Gate;
-pub use laws::{one_slot_is_whole, roots_are_good, slots_spell_one};
+pub use laws::{one_slot_is_whole, roots_are_good, sequence_is_free, slots_spell_one};
 pub use load::{GateError, load_gate};
 pub use root::Root;
 pub use turning::turn;
+
+#[cfg(test)]
+mod tests;

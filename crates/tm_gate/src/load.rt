@@ -1,12 +1,12 @@
 //! Reading the gate of an image.
-ghost use Rattle.std.specs.Prelude.{◌≡◌, ◌≢◌, ◌≤◌, ◌<◌, ◌+◌, ◌%◌, ◌↔◌, ℕ, IsTrue, IfOk, IsErrOf, slice_index};
+ghost use Rattle.std.specs.Prelude.{◌≡◌, ◌≢◌, ◌≤◌, ◌<◌, ◌+◌, ◌%◌, ◌↔◌, ℕ, IsTrue, IfOk, IsOk, IsErrOf, slice_index};
 ghost use Rattle.tm_world.specs.Outside.{disk, part_of};
 ghost use Rattle.tm_world.specs.Log.{now, Steps};
 ghost use Rattle.tm_world.specs.Faults.{Rose, NeverLess};
 ghost use Rattle.tm_gate.specs.Selector.{named_by};
 ghost use Rattle.tm_gate.specs.Slot.{slot_of, HasMagic};
 ghost use Rattle.tm_gate.specs.Fields.{IsGoodSlot, IsBadSlot};
-ghost use Rattle.tm_gate.specs.Load.{IsUnformatted, IsBadGate, IsGoodGate, IsRoot};
+ghost use Rattle.tm_gate.specs.Load.{IsUnformatted, IsBadGate, IsGoodGate, IsRoot, Shows};
 
 use crate::field::first_bad;
 use crate::gate::Gate;
@@ -53,7 +53,8 @@ fn has_magic(slot: &[u8; 4096]) -> bool
 fn read_gate(slot: &[u8; 4096], named: u8, side: Side, blocks: u32) -> Result<Gate, GateError>
     requires blocks { 3 ≤ blocks }
     requires named { (1 ≤ named) × (named ≤ 2) }
-    ensures ok { IfOk result (λ gate. (gate.named ≡ named) × (slot.now ≡ slot_of gate.root) × IsGoodSlot side blocks slot.now) }
+    ensures ok { IfOk result (λ gate. (gate.named ≡ named) × (slot.now ≡ slot_of gate.root)) }
+    ensures good { IsOk result ↔ (HasMagic slot.now × IsGoodSlot side blocks slot.now) }
     ensures root { IfOk result (λ gate. IsRoot side blocks gate.root) }
     ensures unformatted { (n : ℕ) → (result ≡ Err (GateError.Unformatted n)) ↔ ((named ≡ n) × ¬ HasMagic slot.now) }
     ensures bad { (place : ℕ) → (result ≡ Err (GateError.BadSlot place)) ↔ (HasMagic slot.now × IsBadSlot side blocks slot.now place) }
@@ -71,18 +72,21 @@ fn read_gate(slot: &[u8; 4096], named: u8, side: Side, blocks: u32) -> Result<Ga
     }
 }
 
-/// Reads the selector and the slot that it names, and nothing else. It takes no memory.
+/// Reads the selector and the slot that it names, at most two blocks. It takes no memory and writes
+/// nothing (`docs/FORMATS.md`, "Selector and slots").
 pub fn load_gate<W: World>(world: &mut W, side: Side, blocks: u32) -> Result<Gate, GateError>
     requires { W.blocks world.old side ≡ blocks }
 
     ensures small { blocks < 3 → result ≡ Err (GateError.Unformatted 0) }
 
     // Without a fault each answer comes exactly where its condition holds.
-    ensures ok { W.told → IfOk result (IsGoodGate side blocks (disk side (now (W.log world.old))).bytes) }
     ensures unformatted { W.told → 3 ≤ blocks → result ≢ Err GateError.Fault → (named : ℕ)
         → (result ≡ Err (GateError.Unformatted named)) ↔ IsUnformatted (disk side (now (W.log world.old))).bytes named }
     ensures bad { W.told → 3 ≤ blocks → result ≢ Err GateError.Fault → (place : ℕ)
         → (result ≡ Err (GateError.BadSlot place)) ↔ IsBadGate side blocks (disk side (now (W.log world.old))).bytes place }
+    ensures good { W.told → 3 ≤ blocks → result ≢ Err GateError.Fault
+        → IsOk result ↔ IsGoodGate side blocks (disk side (now (W.log world.old))).bytes }
+    ensures gate { W.told → IfOk result (Shows (disk side (now (W.log world.old))).bytes) }
 
     // So much is known where contents aren't told, too.
     ensures root { IfOk result (λ gate. IsRoot side blocks gate.root) }

@@ -1,9 +1,9 @@
 //! The root of an image, and its spelling in a slot.
 ghost use Rattle.std.specs.Prelude.{◌≡◌, ◌≤◌, ◌<◌, ◌^◌, IsTrue};
-ghost use Rattle.std.specs.Int.{w32, w64, to_be_bytes};
 ghost use Rattle.tm_gate.specs.Slot.{slot_of, HasMagic};
 ghost use Rattle.tm_gate.specs.Fields.{bytes_at, is_kept, zeros, kind_of};
 
+use tm_codec::{get_u32, get_u64};
 use tm_world::Side;
 
 /// What each slot begins with.
@@ -90,30 +90,10 @@ impl Root {
         Root {
             kind: slot[8],
             version: slot[9],
-            sequence: read_u64(slot, 16),
-            table_len: read_u64(slot, 24),
-            first: read_u32(slot, 12),
+            sequence: get_u64(slot, 16).unwrap(),
+            table_len: get_u64(slot, 24).unwrap(),
+            first: get_u32(slot, 12).unwrap(),
             tag,
         }
     }
-}
-
-/// The number of four bytes at an offset.
-fn read_u32(slot: &[u8; 4096], at: usize) -> u32
-    requires { at ≤ 4092 }
-    ensures { to_be_bytes w32 result ≡ bytes_at at 4 slot.now }
-{
-    let mut bytes = [0u8; 4];
-    bytes.copy_from_slice(&slot[at..at + 4]);
-    u32::from_be_bytes(bytes)
-}
-
-/// The number of eight bytes at an offset.
-fn read_u64(slot: &[u8; 4096], at: usize) -> u64
-    requires { at ≤ 4088 }
-    ensures { to_be_bytes w64 result ≡ bytes_at at 8 slot.now }
-{
-    let mut bytes = [0u8; 8];
-    bytes.copy_from_slice(&slot[at..at + 8]);
-    u64::from_be_bytes(bytes)
 }

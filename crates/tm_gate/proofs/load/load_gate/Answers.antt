@@ -1,4 +1,4 @@
-use Rattle.std.proofs.Common.{◌≡◌, ◌≤◌, sym, ◌∙◌, ap, subst}
+use Rattle.std.proofs.Common.{◌≤◌, sym, ◌∙◌, ap, subst}
 use Rattle.tm_world.specs.Outside.{disk}
 use Rattle.tm_world.specs.Log.{now}
 use Rattle.tm_gate.specs.Selector.{named_by}

@@ -1,5 +1,5 @@
-use Rattle.std.proofs.Common.{List, ℕ, subst, length, get_or, ◌≡◌, ◌<◌, ◌∙◌, ap, sym, arith}
-use Rattle.tm_gate.specs.Fields.{IsGoodSlot, bytes_at}
+use Rattle.std.proofs.Common.{List, ℕ, subst, length, get_or, ◌≡◌, ◌<◌, ◌∙◌, sym, arith}
+use Rattle.tm_gate.specs.Fields.{IsGoodSlot}
 use Rattle.tm_gate.proofs.Spelling.{length-bytes_at, small_at}
 use Rattle.tm_gate.proofs.Roots.{root_from_good}
 use Rattle.tm_gate.proofs.load.read_gate.Goals as goal
