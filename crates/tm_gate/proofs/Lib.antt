@@ -1,8 +1,8 @@
-pub mod Stopping
-pub mod Calls
-pub mod Numbers
-pub mod Laying
-pub mod Kept
-pub mod Spelling
+mod Calls
+mod Kept
+mod Laying
+mod Numbers
+mod Reading
 pub mod Roots
-pub mod Reading
+mod Spelling
+pub mod Stopping

@@ -7,11 +7,10 @@ use Rattle.tm_codec.specs.Fields.{u32_text, u64_text}
 use Rattle.tm_world.specs.declared.world.Side.{Side}
 use Rattle.tm_world.specs.declared.world.Side.TheVariants.{Volume, Store}
 use Rattle.tm_gate.specs.declared.root.Root.{Root}
-use Rattle.tm_gate.specs.declared.field.Field.{Field}
-use Rattle.tm_gate.specs.Slot.{HasMagic, slot_of, after_root}
+use Rattle.tm_gate.specs.Slot.{HasMagic, slot_of}
 use Rattle.tm_gate.specs.Tag.{latest, volume_tag, IsVolumeTag, IsStoreTag, IsTag}
-use Rattle.tm_gate.specs.Fields.{number, bytes_at, is_kept, field, zeros, tag_fields, fields, kind_of, IsGoodSlot}
-use Rattle.tm_gate.specs.Load.{IsRoot}
+use Rattle.tm_gate.specs.Fields.{FieldRule, number, bytes_at, is_kept, field, zeros, tag_fields, fields, kind_of, IsGoodSlot}
+use Rattle.tm_gate.specs.Root.{IsRoot, after_root}
 use Rattle.tm_gate.proofs.Numbers.{zeros_from, u64_text-number, number_one, number-replicate, number-u32_text, number-u64_text}
 use Rattle.tm_gate.proofs.Kept.{AllKept, kept_from_none, none_from_kept, bounds, keeps}
 use Rattle.tm_gate.proofs.Spelling.{length-bytes_at, small_at}
@@ -146,7 +145,7 @@ module _ (blocks : ℕ) (root : Root) (small : (i : ℕ) → get_or root.tag i 0
   flag_is : number (bytes_at 32 1 s) ≡ get_or root.tag 0 0
   flag_is = ap number (at_32 root long) ∙ flag_number root.tag long
 
-  volume_from_kept : (flag : ℕ) (rest : List Field) → AllKept s (tag_fields Volume flag ++ rest) → IsVolumeTag root.tag
+  volume_from_kept : (flag : ℕ) (rest : List FieldRule) → AllKept s (tag_fields Volume flag ++ rest) → IsVolumeTag root.tag
   volume_from_kept flag rest kept = record {
     clean = get_or root.tag 0 0;
     generation = number (bytes_at 8 8 root.tag);
@@ -159,7 +158,7 @@ module _ (blocks : ℕ) (root : Root) (small : (i : ℕ) → get_or root.tag i 0
     next_most = omega (arith, ap number (at_48 root long), bounds s (field 48 8 1 (2 ^ 62)) kept.1.1.1.0);
   }
 
-  store_from_kept : (flag : ℕ) (rest : List Field) → flag ≡ get_or root.tag 0 0 → AllKept s (tag_fields Store flag ++ rest) → IsStoreTag root.tag
+  store_from_kept : (flag : ℕ) (rest : List FieldRule) → flag ≡ get_or root.tag 0 0 → AllKept s (tag_fields Store flag ++ rest) → IsStoreTag root.tag
   store_from_kept flag rest same kept =
       let date = bounds s (field 40 8 0 (cond (eqb flag 0) 0 latest)) kept.1.1.0 in
       let date_is : number (bytes_at 40 8 s) ≡ number (bytes_at 8 8 root.tag) = ap number (at_40 root long) in
@@ -175,7 +174,7 @@ module _ (blocks : ℕ) (root : Root) (small : (i : ℕ) → get_or root.tag i 0
         number_most = omega (arith, ap number (at_48 root long), bounds s (field 48 8 1 (2 ^ 40)) kept.1.1.1.0);
       }
 
-tag_from_kept : (side : Side) (blocks : ℕ) (root : Root) → ((i : ℕ) → get_or root.tag i 0 < 256) → length root.tag ≡ 64 → (rest : List Field)
+tag_from_kept : (side : Side) (blocks : ℕ) (root : Root) → ((i : ℕ) → get_or root.tag i 0 < 256) → length root.tag ≡ 64 → (rest : List FieldRule)
     → AllKept (slot_of root) (tag_fields side (slice_index (slot_of root) 32) ++ rest) → IsTag side root.tag
 tag_from_kept Volume blocks root small long rest kept = volume_from_kept blocks root small long (slice_index (slot_of root) 32) rest kept
 tag_from_kept Store blocks root small long rest kept = store_from_kept blocks root small long (slice_index (slot_of root) 32) rest (flag_at root long) kept

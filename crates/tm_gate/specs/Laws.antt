@@ -4,10 +4,10 @@ use Rattle.tm_world.specs.declared.world.Side.{Side}
 use Rattle.tm_world.specs.Disk.{Disk, Image, IsLeft}
 use Rattle.tm_gate.specs.declared.root.Root.{Root}
 use Rattle.tm_gate.specs.Selector.{named_slot, other_slot}
-use Rattle.tm_gate.specs.Slot.{HasMagic, slot_of, after_root}
+use Rattle.tm_gate.specs.Slot.{HasMagic, slot_of}
 use Rattle.tm_gate.specs.Fields.{IsGoodSlot}
 use Rattle.tm_gate.specs.Gate.{IsGate, LeavesOldOrNew}
-use Rattle.tm_gate.specs.Load.{IsRoot}
+use Rattle.tm_gate.specs.Root.{IsRoot, after_root}
 
 -- of two slots, one is always whole: whatever a stop leaves while the gate is turned, the named slot is the old one or the new
 abbrev pub OneSlotIsWhole : Type 0

@@ -1,12 +1,10 @@
 -- What the gate of an image says to a reader.
-use Rattle.std.specs.Prelude.{◌≡◌, ℕ, ◌<◌, ◌≤◌, ◌-◌, ◌*◌, List}
+use Rattle.std.specs.Prelude.{◌≡◌, ℕ, List}
 use Rattle.tm_world.specs.declared.world.Side.{Side}
-use Rattle.tm_gate.specs.declared.root.Root.{Root}
 use Rattle.tm_gate.specs.declared.gate.Gate.{Gate}
 use Rattle.tm_gate.specs.Selector.{named_by, named_slot}
 use Rattle.tm_gate.specs.Slot.{HasMagic, slot_of}
-use Rattle.tm_gate.specs.Tag.{IsTag}
-use Rattle.tm_gate.specs.Fields.{kind_of, IsGoodSlot, IsBadSlot}
+use Rattle.tm_gate.specs.Fields.{IsGoodSlot, IsBadSlot}
 
 -- the selector names this slot, which lacks the magic
 pub record IsUnformatted (bytes : ℕ → List ℕ) (named : ℕ) : Type 0 where
@@ -27,13 +25,3 @@ pub record IsGoodGate (side : Side) (blocks : ℕ) (bytes : ℕ → List ℕ) : 
 pub record Shows (bytes : ℕ → List ℕ) (gate : Gate) : Type 0 where
   pub selected : named_by (bytes 0) ≡ gate.named
   pub holds : bytes gate.named ≡ slot_of gate.root
-
--- the root of an image of so many blocks: its fields are within their bounds
-pub record IsRoot (side : Side) (blocks : ℕ) (root : Root) : Type 0 where
-  pub kind : root.kind ≡ kind_of side
-  pub version : root.version ≡ 1
-  pub first_least : 3 ≤ root.first
-  pub first_most : root.first < blocks
-  pub length_least : 1 ≤ root.table_len
-  pub length_most : root.table_len ≤ 4092 * (blocks - 3)
-  pub tag : IsTag side root.tag

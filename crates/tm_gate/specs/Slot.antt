@@ -1,5 +1,5 @@
 -- How a slot spells a root.
-use Rattle.std.specs.Prelude.{◌≡◌, ℕ, ◌+◌, ◌%◌, ◌^◌, List, [], ◌∷◌, ◌++◌, take, replicate, codes}
+use Rattle.std.specs.Prelude.{◌≡◌, ℕ, List, [], ◌∷◌, ◌++◌, take, replicate, codes}
 use Rattle.tm_codec.specs.Fields.{u32_text, u64_text}
 use Rattle.tm_gate.specs.declared.root.Root.{Root}
 
@@ -14,7 +14,3 @@ HasMagic slot = take 8 slot ≡ magic
 unfoldable pub slot_of : Root → List ℕ
 slot_of root = magic ++ root.kind ∷ root.version ∷ 0 ∷ 0 ∷ [] ++ u32_text root.first
     ++ u64_text root.sequence ++ u64_text root.table_len ++ root.tag ++ replicate 4000 0
-
--- a root as it is written over an old one: its sequence is one more than the old, wrapping
-abbrev pub after_root : Root → Root → Root
-after_root old root = record root { sequence = (old.sequence + 1) % 2 ^ 64 }

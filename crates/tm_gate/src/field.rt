@@ -3,6 +3,7 @@ ghost use Rattle.std.specs.Prelude.{◌≡◌, ◌≤◌, ◌<◌, ◌+◌, ◌^
 ghost use Rattle.tm_gate.specs.Fields.{number, is_kept, field, zeros, tag_fields, fields, first_broken};
 
 use crate::root::{VERSION, kind_of};
+use std::marker::Model;
 use tm_world::Side;
 
 /// The greatest generation of a volume.
@@ -19,12 +20,20 @@ const MAX_BACKUP: u64 = 1 << 40;
 
 /// A field of a slot: a number, big endian, with the bounds that it keeps. A run of zeros is one
 /// field, whose number is 0.
-#[derive(Clone, Copy)]
+#[derive(Drop)]
 struct Field {
     at: usize,
     size: usize,
     least: u64,
     most: u64,
+}
+
+impl Model for Field {
+    ghost use Rattle.tm_gate.specs.Fields.{FieldRule};
+
+    ghost Value = { FieldRule };
+
+    ghost view = { λ f. record { at = f.at; size = f.size; least = f.least; most = f.most } };
 }
 
 /// The number that bytes spell, big endian, or None where it is above what `u64` holds.

@@ -10,5 +10,5 @@ pub struct Gate {
     pub named: u8,
     /// The root of the image.
     pub root: Root,
-    ghost in_range: { (1 ≤ named) × (named ≤ 2) },
+    pub ghost in_range: { (1 ≤ named) × (named ≤ 2) },
 }

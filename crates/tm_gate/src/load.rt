@@ -6,7 +6,8 @@ ghost use Rattle.tm_world.specs.Faults.{Rose, NeverLess};
 ghost use Rattle.tm_gate.specs.Selector.{named_by};
 ghost use Rattle.tm_gate.specs.Slot.{slot_of, HasMagic};
 ghost use Rattle.tm_gate.specs.Fields.{IsGoodSlot, IsBadSlot};
-ghost use Rattle.tm_gate.specs.Load.{IsUnformatted, IsBadGate, IsGoodGate, IsRoot, Shows};
+ghost use Rattle.tm_gate.specs.Load.{IsUnformatted, IsBadGate, IsGoodGate, Shows};
+ghost use Rattle.tm_gate.specs.Root.{IsRoot};
 
 use crate::field::first_bad;
 use crate::gate::Gate;

@@ -5,7 +5,8 @@ ghost use Rattle.tm_world.specs.Log.{now};
 ghost use Rattle.tm_world.specs.Runs.{Runs};
 ghost use Rattle.tm_world.specs.Faults.{Rose, NeverLess};
 ghost use Rattle.tm_gate.specs.Selector.{named_by, other_slot};
-ghost use Rattle.tm_gate.specs.Slot.{slot_of, after_root};
+ghost use Rattle.tm_gate.specs.Root.{after_root};
+ghost use Rattle.tm_gate.specs.Slot.{slot_of};
 ghost use Rattle.tm_gate.specs.Gate.{IsGate, IsTurned, LeavesOldOrNew};
 
 use crate::gate::Gate;
