@@ -1,13 +1,24 @@
-// A library with one function.
+//! The script language: which bytes are a script, and which lines they spell
+//! (`docs/SCRIPT.md`).
 #![tactic(auto)]
 
-ghost use Rattle.std.specs.Prelude.{◌≡◌};
-ghost use Rattle.tm_text.specs.Echo.{echo_of};
+mod error;
+mod fsevents;
+mod item;
+mod laws;
+mod line;
+mod pieces;
+mod place;
+mod readers;
+mod script;
+mod session;
+mod shapes;
+mod store;
+mod tmutil;
+mod verb;
+mod words;
 
-// The `ensures` clause is the contract: what `echo` returns is `echo_of` of its argument, a definition
-// in `specs/Echo.antt`, which a caller's clause can cite too.
-pub fn echo(x: usize) -> usize
-    ensures { result ≡ echo_of x }
-{
-    x
-}
+pub use laws::{bad_is_outside, one_first_bad_line, one_meaning};
+pub use line::{Line, Lines};
+pub use place::{ItemAt, SnapshotAt, StorePath, Stored, Which};
+pub use script::{ParseError, parse};

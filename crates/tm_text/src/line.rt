@@ -1,6 +1,6 @@
 //! The lines of a script.
 use crate::place::{ItemAt, SnapshotAt, StorePath, Stored};
-use std::alloc::AllocFailed;
+use std::alloc::{AllocError, Global};
 use std::marker::Model;
 use tm_base::{Moment, Name, Path};
 use tm_world::Bytes;
@@ -160,4 +160,48 @@ pub enum Line {
     StoreStat(ItemAt),
     /// `store df`.
     StoreDf,
+}
+
+/// The lines of a script, in order, without those that are skipped. Seen as their list.
+#[derive(Drop)]
+pub struct Lines {
+    lines: Vec<Line>,
+}
+
+impl Model for Lines {
+    ghost use Rattle.std.specs.Prelude.{List};
+    ghost use Rattle.tm_text.specs.declared.line.Line.{Line};
+
+    ghost Value = { List Line };
+
+    ghost view = { λ l. l.lines.items };
+}
+
+impl Lines {
+    ghost use Rattle.std.specs.Prelude.{◌≡◌, [], ◌∷◌, ◌++◌, OnOk, OnErr};
+
+    /// No line. It takes no memory.
+    pub fn new(alloc: Global) -> Lines
+        ensures { result ≡ [] }
+    {
+        Lines {
+            lines: Vec::new(alloc),
+        }
+    }
+
+    /// Puts a line at the end; where memory is refused, the lines stay as they were.
+    pub fn push(&mut self, line: Line) -> Result<(), AllocError>
+        ensures ok { OnOk result (self.new ≡ self.old ++ line ∷ []) }
+        ensures err { OnErr result (self.new ≡ self.old) }
+    {
+        self.lines.push(line)?;
+        Ok(())
+    }
+
+    /// The lines, to read. It takes no memory.
+    pub fn as_slice(&self) -> &[Line]
+        ensures { result.now ≡ self.now }
+    {
+        self.lines.as_slice()
+    }
 }

@@ -26,7 +26,7 @@ pub struct Failed;
 /// stands at its end. No call takes memory. Where `told` holds, each call says by one equation
 /// what is outside after it, and that it was so, or as before, at each moment of the call.
 pub trait World {
-    ghost use Rattle.std.specs.Prelude.{◌≡◌, ◌≢◌, ◌<◌, ◌≤◌, ◌↔◌, [], ℕ, length, take, IfOk, OnOk, OnErr};
+    ghost use Rattle.std.specs.Prelude.{◌≡◌, ◌≢◌, ◌<◌, ◌≤◌, ◌↔◌, [], ℕ, length, take, IsSome, IfOk, OnOk, OnErr};
     ghost use Rattle.std.specs.Option.{ForSome};
     ghost use Rattle.tm_world.specs.declared.world.Side.{Side};
     ghost use Rattle.tm_world.specs.declared.world.Part.{Part};
@@ -57,6 +57,7 @@ pub trait World {
         ensures ok { told → OnOk result (Steps (log self.old) (log self.new) (attached part path.now create (now (log self.old)))) }
         ensures err { told → OnErr result (Steps (log self.old) (log self.new) (now (log self.old))) }
         ensures count { told → IfOk result (λ n. n ≡ attached_count part (now (log self.new))) }
+        ensures script { told → part ≡ Part.Script → OnOk result (IsSome ((now (log self.old)).scripts path.now)) }
         ensures most { IfOk result (λ n. n ≤ 262144) }
         ensures blocks { (side : Side) → part_of side ≡ part → IfOk result (λ n. blocks self.new side ≡ n) }
         ensures other { (side : Side) → part_of side ≢ part → blocks self.new side ≡ blocks self.old side }

@@ -1,0 +1,4 @@
+pub mod WordLemmas
+pub mod OneWordLemmas
+pub mod OneMeaningLemmas
+pub mod ScriptLemmas
