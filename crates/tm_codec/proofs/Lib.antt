@@ -1,0 +1,3 @@
+mod BigEndian
+pub mod Fields
+pub mod Laying
