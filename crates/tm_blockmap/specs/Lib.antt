@@ -1,0 +1,5 @@
+pub mod Marks
+pub mod Counts
+pub mod Takes
+pub mod Gives
+pub mod Words
