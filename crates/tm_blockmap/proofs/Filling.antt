@@ -1,5 +1,5 @@
 -- The first blocks are claimed one after another.
-use Rattle.std.proofs.Common.{◌≡◌, ℕ, zero, suc, ◌+◌, ◌-◌, ◌<◌, ◌≤◌, ⊎_elim, List, ◌∷◌, ◌++◌, get_or, replicate, refl, sym, subst, ◌∙◌, ap, arith}
+use Rattle.std.proofs.Common.{◌≡◌, ℕ, zero, suc, ◌+◌, ◌-◌, ◌<◌, ◌≤◌, ◌↔◌, min, ⊎_elim, List, ◌∷◌, ◌++◌, get_or, replicate, refl, sym, subst, ◌∙◌, ap, arith}
 use Rattle.std.proofs.lemmas.List.{length-replicate, get_or-replicate, get_or_past}
 use Rattle.std.proofs.lemmas.Bool.{cases_lt}
 use Rattle.tm_blockmap.specs.Marks.{AreMarks}
@@ -33,3 +33,18 @@ below_one (suc i) m (suc b) = below_one i m b
 pub filled-marks : (i m : ℕ) (marks : List ℕ) → marks ≡ replicate i 1 ++ replicate m 0 → AreMarks marks
 unfolding filled
 filled-marks i m marks is b = subst (λ ms. get_or ms b 0 ≤ 1) (sym is) (below_one i m b)
+
+-- from the first free block on all are free
+free_from : (i m b : ℕ) → b < i + m → (get_or (filled i m) b 0 ≡ 0) ↔ (i ≤ b)
+unfolding filled
+free_from zero m b lt = let nought : ℕ = 0 in (λ e. omega arith, λ le. get_or-replicate m b nought nought (omega arith))
+free_from (suc i) m zero lt = (λ e. absurd (omega arith), λ le. absurd (omega arith))
+free_from (suc i) m (suc b) lt =
+    let rest = free_from i m b (omega arith) in
+    (λ e. let le : i ≤ b = rest.0 e in omega arith, λ le. rest.1 (omega arith))
+
+pub filled-free : (n kept i b : ℕ) (marks : List ℕ) → i ≡ min kept n → marks ≡ replicate i 1 ++ replicate (n - i) 0 → b < n → (get_or marks b 0 ≡ 0) ↔ (kept ≤ b)
+unfolding filled
+filled-free n kept i b marks least is lt =
+    let rest = free_from i (n - i) b (omega arith) in
+    (λ e. let le : i ≤ b = rest.0 (ap (λ ms. get_or ms b 0) (sym is) ∙ e) in omega arith, λ le. ap (λ ms. get_or ms b 0) is ∙ rest.1 (omega arith))

@@ -78,6 +78,8 @@ impl BlockMap {
     /// it.
     pub fn new(alloc: Global, n: u32, kept: u32) -> Result<BlockMap, Memory>
         ensures kept { IfOk result (λ map. map ≡ replicate (min kept n) 1 ++ replicate (n - kept) 0) }
+        ensures size { IfOk result (λ map. length map ≡ n) }
+        ensures free { IfOk result (λ map. (b : ℕ) → b < n → (slice_index map b ≡ 0) ↔ (kept ≤ b)) }
         ensures are_marks { IfOk result AreMarks }
     {
         let mut map = BlockMap::unused(alloc, n)?;

@@ -2,7 +2,6 @@
 use Rattle.std.proofs.Common.{◌≡◌, ℕ, ◌+◌, ◌-◌, ◌*◌, ◌/◌, ◌%◌, ◌<◌, ◌≤◌, List, ◌++◌, length, get_or, take, drop, replicate, refl, sym, ◌∙◌, ap, arith, length-drop}
 use Rattle.std.proofs.lemmas.List.{ext_get_or, get_or-take, get_or-drop, length-take-le, length-take, get_or_append_left}
 use Rattle.std.proofs.lemmas.List.FromFn.{length-map-range_with_len, get_or-map-range_with_len}
-
 use Rattle.tm_chain.specs.Blob.{FillsOn, piece_of, byte_in, bytes_in}
 
 length-bytes_in : (blocks : List ℕ) (bytes : ℕ → List ℕ) (at count : ℕ) → length (bytes_in blocks bytes at count) ≡ count

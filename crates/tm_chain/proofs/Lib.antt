@@ -1,3 +1,6 @@
 mod Parts
 mod Writing
 mod Held
+mod Walking
+mod Reading
+mod Ways

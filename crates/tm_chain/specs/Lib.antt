@@ -4,3 +4,4 @@ pub mod Chain
 pub mod Blob
 pub mod Way
 pub mod Laws
+pub mod Walk

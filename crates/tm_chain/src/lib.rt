@@ -7,8 +7,14 @@
 #![tactic(auto)]
 
 mod blob;
+mod error;
+mod laws;
 mod read;
+mod walk;
 mod write;
 
 pub use blob::{read_blob, write_blob};
+pub use error::ChainError;
+pub use laws::{chains_are_one, filled_blocks_hold};
+pub use read::{Chain, read_chain};
 pub use write::write_chain;

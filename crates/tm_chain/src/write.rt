@@ -76,3 +76,21 @@ pub fn write_chain<W: World>(
     }
     Ok(())
 }
+
+#[cfg(test)]
+mod tests {
+    use super::*;
+    use std::test::Fail;
+
+    #[test]
+    fn a_chain_of_4093_bytes_on_blocks_3_and_5(rt: HostRuntime) -> Result<(), Fail> {
+        let text = [7u8; 4093];
+        let first = link(&text, &[3, 5], 0);
+        let last = link(&text, &[3, 5], 1);
+        assert_eq!(rt; first[..4], [0, 0, 0, 5][..]);
+        assert_eq!(rt; first[4..], [7u8; 4092][..]);
+        assert_eq!(rt; last[..5], [0, 0, 0, 0, 7][..]);
+        assert_eq!(rt; last[5..], [0u8; 4091][..]);
+        Ok(())
+    }
+}
