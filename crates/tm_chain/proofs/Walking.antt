@@ -1,12 +1,11 @@
 -- A chain that is read, one block more at a time.
-use Rattle.std.proofs.Common.{◌≡◌, ◌≢◌, ◌↔◌, ℕ, suc, ◌+◌, ◌-◌, ◌*◌, ◌^◌, ◌<◌, ◌≤◌, List, [], ◌∷◌, ◌++◌, length, get_or, take, drop, replicate, ⊎_elim, ap, subst, refl, sym, ◌∙◌, arith, length-append, length-drop, append_assoc}
+use Rattle.std.proofs.Common.{◌≡◌, ◌≢◌, ◌↔◌, ℕ, ◌+◌, ◌-◌, ◌*◌, ◌^◌, ◌<◌, ◌≤◌, List, [], ◌∷◌, ◌++◌, length, get_or, take, drop, replicate, ⊎_elim, ap, subst, sym, ◌∙◌, arith, length-append, length-drop, append_assoc}
 use Rattle.std.proofs.Math.ListN.{set}
 use Rattle.std.proofs.lemmas.Bool.{cases_lt, cases_eq}
-use Rattle.std.proofs.lemmas.List.{length-set, get_or-set_same, get_or-set_other, get_or_append_left, get_or-append-add, take_at, drop_at, take_all, drop-append-le, take-append-le, drop-drop, take-append-drop, length-take-le}
-use Rattle.tm_blockmap.specs.Counts.{times, IsDistinct}
+use Rattle.std.proofs.lemmas.List.{length-set, get_or-set_same, get_or-set_other, get_or_append_left, get_or-append-add, drop_at, take_all, drop-append-le, take-append-le, drop-drop, take-append-drop, length-take-le}
+use Rattle.tm_blockmap.specs.Counts.{times}
 use Rattle.tm_blockmap.proofs.Counting.{hit, one_same, one_other, times-push, times-cons}
 use Rattle.tm_codec.specs.Fields.{u32_text}
-use Rattle.tm_codec.specs.Padded.{padded}
 use Rattle.tm_codec.proofs.Fields.{apart-u32, length-u32_text}
 use Rattle.tm_chain.specs.Way.{Names, MayFollow, EndsChain}
 use Rattle.tm_chain.specs.Walk.{IsWalk, IsRead, IsLast, last_of}

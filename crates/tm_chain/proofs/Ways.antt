@@ -3,12 +3,12 @@ use Rattle.std.proofs.Common.{◌≡◌, ℕ, zero, suc, ◌+◌, ◌-◌, ◌*�
 use Rattle.std.proofs.lemmas.Bool.{cases_lt}
 use Rattle.std.proofs.lemmas.List.{ext_get_or, get_or-take, get_or-drop, get_or_append_left, get_or-append-add, get_or_past, length-take-le, length-take, drop_at}
 use Rattle.std.proofs.lemmas.List.Sums.{sum_by_more_le}
-use Rattle.tm_blockmap.specs.Counts.{times, IsDistinct}
-use Rattle.tm_blockmap.proofs.Counting.{hit, one_same, times-more}
+use Rattle.tm_blockmap.specs.Counts.{times}
+use Rattle.tm_blockmap.proofs.Counting.{hit, one_same}
 use Rattle.tm_codec.specs.Fields.{u32_text}
 use Rattle.tm_codec.specs.Padded.{padded}
 use Rattle.tm_codec.proofs.Fields.{length-u32_text}
-use Rattle.tm_chain.specs.Chain.{IsRow, IsChain, LiesOn, link_of, chain_len}
+use Rattle.tm_chain.specs.Chain.{IsRow, IsChain, LiesOn, link_of}
 use Rattle.tm_chain.specs.Way.{Names, IsLinked, MayFollow, EndsChain, BreaksAt, last_len}
 use Rattle.tm_chain.specs.Laws.{OneChain, ChainOrBreak, OneBreak}
 use Rattle.tm_chain.proofs.Walking.{one_name}

@@ -1,8 +1,8 @@
 -- One part more is written.
-use Rattle.std.proofs.Common.{◌≡◌, ◌≢◌, inl, inr, ⊎_elim, ℕ, ◌+◌, ◌<◌, ◌≤◌, List, [], length, get_or, Result, Ok, refl, sym, ◌∙◌, ap, subst, arith, below_more}
+use Rattle.std.proofs.Common.{◌≡◌, ℕ, ◌+◌, ◌<◌, List, length, get_or, Result, Ok, refl, sym, ◌∙◌, ap, subst, below_more}
 use Rattle.tm_world.specs.Disk.{Disk, DiffersAt, written}
-use Rattle.tm_world.specs.Outside.{disk, put_disk}
-use Rattle.tm_world.specs.Log.{Log, now, Steps, Writes}
+use Rattle.tm_world.specs.Outside.{disk}
+use Rattle.tm_world.specs.Log.{Log, now, Writes}
 use Rattle.tm_world.specs.Runs.{Runs}
 use Rattle.tm_world.specs.declared.world.Side.{Side}
 use Rattle.tm_world.proofs.Disks.{bytes_here, differs-written}

@@ -1,5 +1,5 @@
 -- What every reader of chains and blobs may rely on.
-use Rattle.std.specs.Prelude.{◌≡◌, ◌<◌, ◌≤◌, ◌+◌, ◌*◌, ◌^◌, ℕ, List, length, take, drop}
+use Rattle.std.specs.Prelude.{◌≡◌, ◌≤◌, ◌+◌, ◌*◌, ◌^◌, ℕ, List, length, take, drop}
 use Rattle.tm_chain.specs.Chain.{IsChain}
 use Rattle.tm_chain.specs.Way.{BreaksAt}
 use Rattle.tm_chain.specs.Blob.{FillsOn, bytes_in}

@@ -87,10 +87,10 @@ mod tests {
         let text = [7u8; 4093];
         let first = link(&text, &[3, 5], 0);
         let last = link(&text, &[3, 5], 1);
-        assert_eq!(rt; first[..4], [0, 0, 0, 5][..]);
-        assert_eq!(rt; first[4..], [7u8; 4092][..]);
-        assert_eq!(rt; last[..5], [0, 0, 0, 0, 7][..]);
-        assert_eq!(rt; last[5..], [0u8; 4091][..]);
+        assert_eq!(rt; [first[0], first[1], first[2], first[3]], [0, 0, 0, 5]);
+        assert_eq!(rt; (first[4], first[4095]), (7, 7));
+        assert_eq!(rt; [last[0], last[1], last[2], last[3]], [0, 0, 0, 0]);
+        assert_eq!(rt; (last[4], last[5], last[4095]), (7, 0, 0));
         Ok(())
     }
 }

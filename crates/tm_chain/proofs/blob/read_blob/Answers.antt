@@ -1,4 +1,4 @@
-use Rattle.std.proofs.Common.{◌<◌, arith}
+use Rattle.std.proofs.Common.{arith}
 use Rattle.tm_chain.proofs.Held.{held_each}
 use Rattle.tm_chain.proofs.blob.read_blob.Goals as goal
 

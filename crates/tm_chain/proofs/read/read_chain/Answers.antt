@@ -1,12 +1,11 @@
-use Rattle.std.proofs.Common.{◌≡◌, ◌+◌, ◌-◌, ◌*◌, ◌/◌, ◌≤◌, ◌<◌, ◌∙◌, ℕ, List, length, get_or, Err, rules, sym, ap, subst, arith}
+use Rattle.std.proofs.Common.{◌≡◌, ◌-◌, ◌*◌, ◌/◌, ◌≤◌, ◌∙◌, ℕ, List, length, Err, rules, sym, ap, subst, arith}
 use Rattle.std.proofs.lemmas.Result.{IfOk-weaker}
 use Rattle.tm_world.specs.Outside.{disk}
 use Rattle.tm_world.specs.Log.{now}
 use Rattle.tm_world.proofs.Going.{Steps-then}
-use Rattle.tm_chain.specs.Chain.{IsRow, LiesOn, chain_len}
-use Rattle.tm_chain.specs.Way.{BreaksAt, Names, MayFollow, EndsChain, last_len}
+use Rattle.tm_chain.specs.Chain.{IsRow, LiesOn}
+use Rattle.tm_chain.specs.Way.{Names, MayFollow, EndsChain, last_len}
 use Rattle.tm_chain.specs.Walk.{IsLast, IsRead, last_of}
-use Rattle.tm_chain.specs.declared.error.ChainError.{ChainError}
 use Rattle.tm_chain.specs.declared.error.ChainError.TheVariants.{BadChain}
 use Rattle.tm_chain.proofs.Reading.{IfOk-both, row_of, breaks_on, breaks_last, lies_on}
 use Rattle.tm_chain.proofs.read.read_chain.Goals as goal

@@ -1,4 +1,3 @@
-use Rattle.std.proofs.Common.{◌≡◌, ◌^◌, ◌<◌}
 use Rattle.std.proofs.lemmas.Bool.{eqb-true}
 use Rattle.tm_chain.proofs.Walking.{ended}
 use Rattle.tm_chain.proofs.walk.ends.Goals as goal

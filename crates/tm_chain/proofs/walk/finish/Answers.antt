@@ -1,4 +1,4 @@
-use Rattle.std.proofs.Common.{◌≡◌, ◌∙◌, ℕ, List, refl, ap, subst, arith, length, drop, take}
+use Rattle.std.proofs.Common.{◌∙◌, ℕ, List, refl, ap, subst, arith}
 use Rattle.tm_world.specs.Outside.{disk}
 use Rattle.tm_world.specs.Log.{now}
 use Rattle.tm_chain.specs.Walk.{IsLast}

@@ -1,4 +1,4 @@
-use Rattle.std.proofs.Common.{length, arith, refl, ap, sym}
+use Rattle.std.proofs.Common.{arith, sym}
 use Rattle.tm_codec.proofs.Laying.{laid}
 use Rattle.tm_chain.proofs.write.lay.Goals as goal
 

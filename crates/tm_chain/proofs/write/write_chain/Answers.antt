@@ -1,4 +1,4 @@
-use Rattle.std.proofs.Common.{◌<◌, length, arith, rules}
+use Rattle.std.proofs.Common.{arith, rules}
 use Rattle.tm_chain.specs.Chain.{link_of}
 use Rattle.tm_chain.proofs.Writing.{written-none, written-more, holds-more}
 use Rattle.tm_chain.proofs.write.write_chain.Goals as goal

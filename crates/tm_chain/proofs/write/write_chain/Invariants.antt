@@ -1,5 +1,5 @@
-use Rattle.std.proofs.Common.{◌≡◌, ◌≤◌}
-use Rattle.tm_world.specs.Outside.{disk, part_of}
+use Rattle.std.proofs.Common.{◌≡◌}
+use Rattle.tm_world.specs.Outside.{disk}
 use Rattle.tm_world.specs.Log.{now}
 use Rattle.tm_world.specs.Faults.{NeverLess}
 use Rattle.tm_chain.specs.Chain.{link_of}
