@@ -3,3 +3,4 @@ pub mod Counts
 pub mod Takes
 pub mod Gives
 pub mod Words
+pub mod Laws

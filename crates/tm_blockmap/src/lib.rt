@@ -4,6 +4,8 @@
 //! is kept in words of 64 bits with a hint, so that taking a block looks at few words.
 #![tactic(auto)]
 
+mod laws;
+
 ghost use Rattle.std.specs.Prelude.{◌≡◌, ◌≢◌, ◌<◌, ◌≤◌, ◌-◌, ◌+◌, ◌^◌, ◌++◌, ◌↔◌, ℕ, length, min, slice_index, slice_set, replicate, sum, IfOk, IfSome, IfNone, IsTrue, OnOk, OnErr};
 ghost use Rattle.std.specs.Int.{bit_at};
 ghost use Rattle.tm_blockmap.specs.Marks.{AreMarks, IsLowestFree, IsFull};
@@ -11,6 +13,7 @@ ghost use Rattle.tm_blockmap.specs.Counts.{times};
 ghost use Rattle.tm_blockmap.specs.Takes.{Takes};
 ghost use Rattle.tm_blockmap.specs.Gives.{Gives};
 
+pub use laws::marks_count_blocks;
 use std::alloc::{AllocError, Global};
 use std::marker::Model;
 

@@ -1,6 +1,6 @@
 mod Parts
 mod Writing
-mod Held
+pub mod Held
 mod Walking
 mod Reading
-mod Ways
+pub mod Ways

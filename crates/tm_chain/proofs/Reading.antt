@@ -6,7 +6,7 @@ use Rattle.std.proofs.lemmas.List.{get_or_past, drop_at, take_all, drop-append-l
 use Rattle.tm_codec.specs.Fields.{u32_text}
 use Rattle.tm_codec.specs.Padded.{padded}
 use Rattle.tm_codec.proofs.Fields.{length-u32_text}
-use Rattle.tm_chain.specs.Chain.{IsRow, LiesOn, link_of, chain_len}
+use Rattle.tm_chain.specs.Chain.{IsBlockList, LiesOn, link_of, chain_len}
 use Rattle.tm_chain.specs.Way.{Names, IsLinked, MayFollow, EndsChain, BreaksAt, last_len}
 use Rattle.tm_chain.specs.Walk.{IsWalk, IsRead, IsLast, last_of}
 
@@ -15,8 +15,8 @@ pub IfOk-both : {T E : Type 0} (r : Result T E) (P Q R : T → Type 0) → ((x :
 IfOk-both (Ok x) P Q R both p q = both x p q
 IfOk-both (Err e) P Q R both p q = tt
 
-pub row_of : (first total : ℕ) (blocks text marks : List ℕ) → IsWalk blocks text marks → length marks ≡ total → get_or blocks 0 0 ≡ first → IsRow first total blocks
-row_of first total blocks text marks walk size starts = record {
+pub list_of : (first total : ℕ) (blocks text marks : List ℕ) → IsWalk blocks text marks → length marks ≡ total → get_or blocks 0 0 ≡ first → IsBlockList first total blocks
+list_of first total blocks text marks walk size starts = record {
   some = walk.some;
   starts = starts;
   inside = λ k lt. ((walk.inside k lt).0, omega (arith, (walk.inside k lt).1));
@@ -37,7 +37,7 @@ pub breaks_on : (first len total block : ℕ) (blocks text marks : List ℕ) (by
     → block ≡ last_of blocks → length blocks < chain_len len → ((next : ℕ) → Names next (bytes block) → MayFollow (length marks) blocks next → ⊥) → BreaksAt first len total block bytes
 breaks_on first len total block blocks text marks bytes walk size starts read place short stuck = record {
   way = blocks;
-  row = row_of first total blocks text marks walk size starts;
+  listed = list_of first total blocks text marks walk size starts;
   linked = linked_of blocks text bytes read;
   reaches = sym place;
   within = omega arith;
@@ -50,7 +50,7 @@ pub breaks_last : (first len total block : ℕ) (blocks text marks : List ℕ) (
     → block ≡ last_of blocks → length blocks ≡ chain_len len → (EndsChain (last_len len) (bytes block) → ⊥) → BreaksAt first len total block bytes
 breaks_last first len total block blocks text marks bytes walk size starts read place full open_end = record {
   way = blocks;
-  row = row_of first total blocks text marks walk size starts;
+  listed = list_of first total blocks text marks walk size starts;
   linked = linked_of blocks text bytes read;
   reaches = sym place;
   within = omega arith;

@@ -8,36 +8,36 @@ use Rattle.tm_blockmap.proofs.Counting.{hit, one_same}
 use Rattle.tm_codec.specs.Fields.{u32_text}
 use Rattle.tm_codec.specs.Padded.{padded}
 use Rattle.tm_codec.proofs.Fields.{length-u32_text}
-use Rattle.tm_chain.specs.Chain.{IsRow, IsChain, LiesOn, link_of}
+use Rattle.tm_chain.specs.Chain.{IsBlockList, IsChain, LiesOn, link_of}
 use Rattle.tm_chain.specs.Way.{Names, IsLinked, MayFollow, EndsChain, BreaksAt, last_len}
 use Rattle.tm_chain.specs.Laws.{OneChain, ChainOrBreak, OneBreak}
 use Rattle.tm_chain.proofs.Walking.{one_name}
 use Rattle.tm_chain.proofs.Reading.{named}
 
 -- two ways from one block agree as far as both go
-agree : (first total : ℕ) (xs ys : List ℕ) (bytes : ℕ → List ℕ) → total ≤ 2 ^ 32 → IsRow first total xs → IsRow first total ys → IsLinked xs bytes → IsLinked ys bytes
+agree : (first total : ℕ) (xs ys : List ℕ) (bytes : ℕ → List ℕ) → total ≤ 2 ^ 32 → IsBlockList first total xs → IsBlockList first total ys → IsLinked xs bytes → IsLinked ys bytes
     → (k : ℕ) → k < length xs → k < length ys → get_or xs k 0 ≡ get_or ys k 0
-agree first total xs ys bytes few row row2 links links2 zero lt lt2 = row.starts ∙ sym row2.starts
-agree first total xs ys bytes few row row2 links links2 (suc k) lt lt2 =
+agree first total xs ys bytes few listed list2 links links2 zero lt lt2 = listed.starts ∙ sym list2.starts
+agree first total xs ys bytes few listed list2 links links2 (suc k) lt lt2 =
     let next : k + 1 ≡ suc k = omega arith in
-    let here : get_or xs k 0 ≡ get_or ys k 0 = agree first total xs ys bytes few row row2 links links2 k (omega arith) (omega arith) in
+    let here : get_or xs k 0 ≡ get_or ys k 0 = agree first total xs ys bytes few listed list2 links links2 k (omega arith) (omega arith) in
     let name : Names (get_or xs (suc k) 0) (bytes (get_or xs k 0)) = subst (λ j. Names (get_or xs j 0) (bytes (get_or xs k 0))) next (links.each k (omega arith)) in
     let name2 : Names (get_or ys (suc k) 0) (bytes (get_or ys k 0)) = subst (λ j. Names (get_or ys j 0) (bytes (get_or ys k 0))) next (links2.each k (omega arith)) in
-    one_name _ _ (bytes (get_or xs k 0)) (omega (arith, (row.inside (suc k) lt).1)) (omega (arith, (row2.inside (suc k) lt2).1)) name (subst (λ b. Names (get_or ys (suc k) 0) (bytes b)) (sym here) name2)
+    one_name _ _ (bytes (get_or xs k 0)) (omega (arith, (listed.inside (suc k) lt).1)) (omega (arith, (list2.inside (suc k) lt2).1)) name (subst (λ b. Names (get_or ys (suc k) 0) (bytes b)) (sym here) name2)
 
 -- a way that a longer one goes on from
-module _ (first total : ℕ) (way more : List ℕ) (bytes : ℕ → List ℕ) (few : total ≤ 2 ^ 32) (row : IsRow first total way) (row2 : IsRow first total more) (links : IsLinked way bytes) (links2 : IsLinked more bytes) (longer : length way < length more) where
+module _ (first total : ℕ) (way more : List ℕ) (bytes : ℕ → List ℕ) (few : total ≤ 2 ^ 32) (listed : IsBlockList first total way) (list2 : IsBlockList first total more) (links : IsLinked way bytes) (links2 : IsLinked more bytes) (longer : length way < length more) where
   prefix : way ≡ take (length way) more
   prefix =
       let size : length (take (length way) more) ≡ length way = length-take-le (length way) more (omega arith) in
       ext_get_or 0 way (take (length way) more) (sym size)
-      (λ k lt. agree first total way more bytes few row row2 links links2 k lt (omega arith) ∙ sym (get_or-take (length way) more k 0 lt))
+      (λ k lt. agree first total way more bytes few listed list2 links links2 k lt (omega arith) ∙ sym (get_or-take (length way) more k 0 lt))
 
   pub next_names : Names (get_or more (length way) 0) (bytes (get_or way (length way - 1) 0))
   next_names =
       let k : ℕ = length way - 1 in
-      let next : k + 1 ≡ length way = omega (arith, row.some) in
-      let here : get_or way k 0 ≡ get_or more k 0 = agree first total way more bytes few row row2 links links2 k (omega (arith, row.some)) (omega arith) in
+      let next : k + 1 ≡ length way = omega (arith, listed.some) in
+      let here : get_or way k 0 ≡ get_or more k 0 = agree first total way more bytes few listed list2 links links2 k (omega (arith, listed.some)) (omega arith) in
       subst (λ b. Names (get_or more (length way) 0) (bytes b)) (sym here) (subst (λ j. Names (get_or more j 0) (bytes (get_or more k 0))) next (links2.each k (omega arith)))
 
   pub next_follows : MayFollow total way (get_or more (length way) 0)
@@ -46,8 +46,8 @@ module _ (first total : ℕ) (way more : List ℕ) (bytes : ℕ → List ℕ) (f
       let b : ℕ = get_or more n 0 in
       let f : ℕ → ℕ = λ y. hit y b in
       let one : f b ≡ 1 = one_same b b refl in
-      let none : times b (take n more) ≡ 0 = omega (arith, sum_by_more_le f more n 0 longer, row2.distinct b, one) in
-      ((row2.inside n longer).0, (row2.inside n longer).1, ap (times b) prefix ∙ none)
+      let none : times b (take n more) ≡ 0 = omega (arith, sum_by_more_le f more n 0 longer, list2.distinct b, one) in
+      ((list2.inside n longer).0, (list2.inside n longer).1, ap (times b) prefix ∙ none)
 
 -- the blocks of a chain are linked
 pub chain_linked : (blocks text : List ℕ) (bytes : ℕ → List ℕ) → LiesOn blocks text bytes → IsLinked blocks bytes
@@ -61,7 +61,7 @@ pub chain_ends : (first len total : ℕ) (blocks text : List ℕ) (bytes : ℕ �
 unfolding link_of
 chain_ends first len total blocks text bytes chain =
     let k : ℕ = length blocks - 1 in
-    let some : 0 < length blocks = chain.row.some in
+    let some : 0 < length blocks = chain.listed.some in
     let next : k + 1 ≡ length blocks = omega arith in
     let none : get_or blocks (k + 1) 0 ≡ 0 = get_or_past blocks (k + 1) 0 (omega arith) in
     let part : List ℕ = take 4092 (drop (4092 * k) text) in
@@ -94,7 +94,7 @@ one_chain first len total blocks blocks2 text text2 bytes few chain chain2 =
     let many : length blocks2 ≡ length blocks = chain2.many ∙ sym chain.many in
     let links = chain_linked blocks text bytes chain.lies in
     let links2 = chain_linked blocks2 text2 bytes chain2.lies in
-    let same : blocks2 ≡ blocks = ext_get_or 0 blocks2 blocks many (λ k lt. agree first total blocks2 blocks bytes few chain2.row chain.row links2 links k lt (omega arith)) in
+    let same : blocks2 ≡ blocks = ext_get_or 0 blocks2 blocks many (λ k lt. agree first total blocks2 blocks bytes few chain2.listed chain.listed links2 links k lt (omega arith)) in
     let size : length text2 ≡ length text = chain2.size ∙ sym chain.size in
     let enough : length text ≤ 4092 * length blocks = omega (arith, chain.size, chain.many) in
     let enough2 : length text2 ≤ 4092 * length blocks2 = omega (arith, chain2.size, chain2.many) in (
@@ -109,12 +109,12 @@ chain_or_break first len total block blocks text bytes few chain break =
     ⊎_elim
     (λ (shorter : length break.way < length blocks).
     break.goes_on (omega (arith, chain.many)) (get_or blocks (length break.way) 0)
-    (subst (λ b. Names (get_or blocks (length break.way) 0) (bytes b)) break.reaches (next_names first total break.way blocks bytes few break.row chain.row break.linked links shorter))
-    (next_follows first total break.way blocks bytes few break.row chain.row break.linked links shorter))
+    (subst (λ b. Names (get_or blocks (length break.way) 0) (bytes b)) break.reaches (next_names first total break.way blocks bytes few break.listed chain.listed break.linked links shorter))
+    (next_follows first total break.way blocks bytes few break.listed chain.listed break.linked links shorter))
     (λ (full : length blocks ≤ length break.way).
     let same : length break.way ≡ length blocks = omega (arith, break.within, chain.many) in
     let last : get_or blocks (length blocks - 1) 0 ≡ block =
-    ap (λ j. get_or blocks (j - 1) 0) (sym same) ∙ agree first total blocks break.way bytes few chain.row break.row links break.linked (length break.way - 1) (omega (arith, break.row.some)) (omega (arith, break.row.some)) ∙ break.reaches in
+    ap (λ j. get_or blocks (j - 1) 0) (sym same) ∙ agree first total blocks break.way bytes few chain.listed break.listed links break.linked (length break.way - 1) (omega (arith, break.listed.some)) (omega (arith, break.listed.some)) ∙ break.reaches in
     break.ends (same ∙ chain.many) (subst (λ b. EndsChain (last_len len) (bytes b)) last (chain_ends first len total blocks text bytes chain)))
     (cases_lt (length break.way) (length blocks))
 
@@ -122,8 +122,8 @@ chain_or_break first len total block blocks text bytes few chain break =
 no_longer : (first len total block block2 : ℕ) (bytes : ℕ → List ℕ) → total ≤ 2 ^ 32 → (break : BreaksAt first len total block bytes) (break2 : BreaksAt first len total block2 bytes) → length break.way < length break2.way → ⊥
 no_longer first len total block block2 bytes few break break2 shorter =
     break.goes_on (omega (arith, break2.within)) (get_or break2.way (length break.way) 0)
-    (subst (λ b. Names (get_or break2.way (length break.way) 0) (bytes b)) break.reaches (next_names first total break.way break2.way bytes few break.row break2.row break.linked break2.linked shorter))
-    (next_follows first total break.way break2.way bytes few break.row break2.row break.linked break2.linked shorter)
+    (subst (λ b. Names (get_or break2.way (length break.way) 0) (bytes b)) break.reaches (next_names first total break.way break2.way bytes few break.listed break2.listed break.linked break2.linked shorter))
+    (next_follows first total break.way break2.way bytes few break.listed break2.listed break.linked break2.linked shorter)
 
 pub one_break : OneBreak
 one_break first len total block block2 bytes few break break2 =
@@ -134,7 +134,7 @@ one_break first len total block block2 bytes few break break2 =
     (λ (longer : length break2.way < length break.way). absurd (no_longer first len total block2 block bytes few break2 break longer))
     (λ (ge : length break.way ≤ length break2.way).
     let same : length break2.way ≡ length break.way = omega arith in
-    sym break2.reaches ∙ agree first total break2.way break.way bytes few break2.row break.row break2.linked break.linked (length break2.way - 1) (omega (arith, break2.row.some)) (omega (arith, break2.row.some))
+    sym break2.reaches ∙ agree first total break2.way break.way bytes few break2.listed break.listed break2.linked break.linked (length break2.way - 1) (omega (arith, break2.listed.some)) (omega (arith, break2.listed.some))
     ∙ ap (λ j. get_or break.way (j - 1) 0) same ∙ break.reaches)
     (cases_lt (length break2.way) (length break.way)))
     (cases_lt (length break.way) (length break2.way))

@@ -18,7 +18,7 @@ abbrev pub LiesOn : List ℕ → List ℕ → (ℕ → List ℕ) → Type 0
 LiesOn blocks text bytes = HoldsUpTo (length blocks) blocks (link_of text blocks) bytes
 
 -- distinct blocks from 3 on and below `total`, of which this is the first
-pub record IsRow (first total : ℕ) (blocks : List ℕ) : Type 0 where
+pub record IsBlockList (first total : ℕ) (blocks : List ℕ) : Type 0 where
   pub some : 0 < length blocks
   pub starts : slice_index blocks 0 ≡ first
   pub inside : (k : ℕ) → k < length blocks → (3 ≤ slice_index blocks k) × (slice_index blocks k < total)
@@ -26,7 +26,7 @@ pub record IsRow (first total : ℕ) (blocks : List ℕ) : Type 0 where
 
 -- a text of so many bytes lies on these blocks
 pub record IsChain (first len total : ℕ) (blocks text : List ℕ) (bytes : ℕ → List ℕ) : Type 0 where
-  pub row : IsRow first total blocks
+  pub listed : IsBlockList first total blocks
   pub size : length text ≡ len
   pub many : length blocks ≡ chain_len len
   pub lies : LiesOn blocks text bytes

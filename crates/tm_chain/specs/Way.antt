@@ -3,7 +3,7 @@ use Rattle.std.specs.Prelude.{◌≡◌, ◌≤◌, ◌<◌, ◌+◌, ◌-◌, �
 use Rattle.tm_blockmap.specs.Counts.{times}
 use Rattle.tm_codec.specs.Fields.{u32_text}
 use Rattle.tm_codec.specs.Places.{StandsAt}
-use Rattle.tm_chain.specs.Chain.{IsRow, chain_len}
+use Rattle.tm_chain.specs.Chain.{IsBlockList, chain_len}
 
 -- a block has this number at its front
 abbrev pub Names : ℕ → List ℕ → Type 0
@@ -29,7 +29,7 @@ EndsChain rest block = Names 0 block × (drop (4 + rest) block ≡ replicate (40
 -- another block is needed, or doesn't end the chain where it is the last
 pub record BreaksAt (first len total block : ℕ) (bytes : ℕ → List ℕ) : Type 0 where
   pub way : List ℕ
-  pub row : IsRow first total way
+  pub listed : IsBlockList first total way
   pub linked : IsLinked way bytes
   pub reaches : slice_index way (length way - 1) ≡ block
   pub within : length way ≤ chain_len len

@@ -3,7 +3,7 @@ ghost use Rattle.std.specs.Prelude.{◌≡◌, ◌<◌, ◌≤◌, ℕ, length, 
 ghost use Rattle.tm_world.specs.Outside.{disk, part_of};
 ghost use Rattle.tm_world.specs.Log.{now, Steps};
 ghost use Rattle.tm_world.specs.Faults.{NeverLess, Rose};
-ghost use Rattle.tm_chain.specs.Chain.{IsRow, LiesOn, chain_len};
+ghost use Rattle.tm_chain.specs.Chain.{IsBlockList, LiesOn, chain_len};
 ghost use Rattle.tm_chain.specs.Way.{BreaksAt};
 
 use crate::ChainError;
@@ -36,7 +36,7 @@ pub fn read_chain<W: World>(
     requires first_block { (3 ≤ first) × (first < total) }
     requires some { 1 ≤ len }
     requires count { W.blocks world.old side ≡ total }
-    ensures row { IfOk result (λ chain. IsRow first total chain.blocks) }
+    ensures blocks_are { IfOk result (λ chain. IsBlockList first total chain.blocks) }
     ensures size { IfOk result (λ chain. length chain.text ≡ len) }
     ensures many { IfOk result (λ chain. length chain.blocks ≡ chain_len len) }
     ensures lies { W.told → IfOk result (λ chain. LiesOn chain.blocks chain.text (disk side (now (W.log world.old))).bytes) }

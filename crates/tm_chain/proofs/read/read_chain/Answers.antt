@@ -3,11 +3,11 @@ use Rattle.std.proofs.lemmas.Result.{IfOk-weaker}
 use Rattle.tm_world.specs.Outside.{disk}
 use Rattle.tm_world.specs.Log.{now}
 use Rattle.tm_world.proofs.Going.{Steps-then}
-use Rattle.tm_chain.specs.Chain.{IsRow, LiesOn}
+use Rattle.tm_chain.specs.Chain.{IsBlockList, LiesOn}
 use Rattle.tm_chain.specs.Way.{Names, MayFollow, EndsChain, last_len}
 use Rattle.tm_chain.specs.Walk.{IsLast, IsRead, last_of}
 use Rattle.tm_chain.specs.declared.error.ChainError.TheVariants.{BadChain}
-use Rattle.tm_chain.proofs.Reading.{IfOk-both, row_of, breaks_on, breaks_last, lies_on}
+use Rattle.tm_chain.proofs.Reading.{IfOk-both, list_of, breaks_on, breaks_last, lies_on}
 use Rattle.tm_chain.proofs.read.read_chain.Goals as goal
 
 pub returns-in_err-advance-clause-bad : goal.returns-in_err-advance-clause-bad
@@ -32,8 +32,8 @@ loop-k-preserved g c = record {
   faults = search rules;
 }
 
-pub returns-clause-row : goal.returns-clause-row
-returns-clause-row g c = IfOk-weaker c.finish.result _ _ (λ chain is. subst (IsRow c.args.first c.args.total) (sym is) (row_of _ _ _ _ _ c.loop-k.invariant.walk c.loop-k.invariant.size c.loop-k.invariant.starts)) c.finish.ensures.blocks_are
+pub returns-clause-blocks_are : goal.returns-clause-blocks_are
+returns-clause-blocks_are g c = IfOk-weaker c.finish.result _ _ (λ chain is. subst (IsBlockList c.args.first c.args.total) (sym is) (list_of _ _ _ _ _ c.loop-k.invariant.walk c.loop-k.invariant.size c.loop-k.invariant.starts)) c.finish.ensures.blocks_are
 
 pub returns-clause-lies : goal.returns-clause-lies
 returns-clause-lies g c told =
