@@ -14,13 +14,15 @@ unfolding filled
 claimed zero m = refl
 claimed (suc i) m = ap (λ t. 1 ∷ t) (claimed i m)
 
+step : (i m : ℕ) (old new : List ℕ) → old ≡ filled i (suc m) → new ≡ set old i 1 → new ≡ filled (suc i) m
+step i m old new is after = after ∙ ap (λ ms. set ms i 1) is ∙ claimed i m
+
 pub filled-next : (i n : ℕ) (old new : List ℕ) → i < n → old ≡ replicate i 1 ++ replicate (n - i) 0 → new ≡ set old i 1 → new ≡ replicate (i + 1) 1 ++ replicate (n - (i + 1)) 0
 unfolding filled
 filled-next i n old new lt is after =
-    let m : ℕ = n - (i + 1) in
-    let split : n - i ≡ suc m = omega arith in
+    let split : n - i ≡ suc (n - (i + 1)) = omega arith in
     let next : suc i ≡ i + 1 = omega arith in
-    after ∙ ap (λ ms. set ms i 1) (is ∙ ap (λ j. replicate i 1 ++ replicate j 0) split) ∙ claimed i m ∙ ap (λ j. replicate j 1 ++ replicate m 0) next
+    step i (n - (i + 1)) old new (is ∙ ap (filled i) split) after ∙ ap (λ j. filled j (n - (i + 1))) next
 
 below_one : (i m b : ℕ) → get_or (filled i m) b 0 ≤ 1
 unfolding filled
