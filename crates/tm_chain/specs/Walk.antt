@@ -17,6 +17,7 @@ pub record IsWalk (blocks text marks : List ℕ) : Type 0 where
 pub record IsRead (blocks text : List ℕ) (bytes : ℕ → List ℕ) : Type 0 where
   pub each : (k : ℕ) → k + 1 < length blocks → bytes (slice_index blocks k) ≡ u32_text (slice_index blocks (k + 1)) ++ take 4092 (drop (4092 * k) text)
 
+-- the last of these blocks
 abbrev pub last_of : List ℕ → ℕ
 last_of blocks = slice_index blocks (length blocks - 1)
 

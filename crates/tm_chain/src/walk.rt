@@ -1,8 +1,6 @@
 //! A chain that is being read, block by block.
-ghost use Rattle.std.specs.Prelude.{◌≡◌, ◌<◌, ◌≤◌, ◌+◌, ◌↔◌, ℕ, List, [], ◌∷◌, ◌++◌, drop, take, length, replicate, slice_index, slice_set, IsTrue, IfOk, IfErr, OnOk, IsErrOf, Err};
+ghost use Rattle.std.specs.Prelude.{◌≡◌, ◌<◌, ◌≤◌, ◌+◌, ◌↔◌, ℕ, [], ◌∷◌, length, replicate, slice_index, slice_set, IsTrue, IfOk, IfErr, OnOk, IsErrOf, Err};
 ghost use Rattle.std.specs.Bool.{OnTrue};
-ghost use Rattle.tm_codec.specs.Fields.{u32_text};
-ghost use Rattle.tm_codec.specs.Padded.{padded};
 ghost use Rattle.tm_world.specs.Outside.{disk, part_of};
 ghost use Rattle.tm_world.specs.Log.{now, Steps};
 ghost use Rattle.tm_world.specs.Faults.{NeverLess, Rose};
@@ -86,7 +84,7 @@ pub fn advance<W: World>(walk: &mut Walk, world: &mut W, side: Side) -> Result<(
     ensures size { OnOk result (length walk.new.used ≡ length walk.old.used) }
     ensures longer { OnOk result (length walk.new.blocks.items ≡ length walk.old.blocks.items + 1) }
     ensures starts { OnOk result (slice_index walk.new.blocks.items 0 ≡ slice_index walk.old.blocks.items 0) }
-    ensures read { W.told → OnOk result (IsRead walk.old.blocks.items walk.old.text.items (disk side (now (W.log world.old))).bytes → IsRead walk.new.blocks.items walk.new.text.items (disk side (now (W.log world.old))).bytes) }
+    ensures read { W.told → OnOk result (let bytes = (disk side (now (W.log world.old))).bytes in IsRead walk.old.blocks.items walk.old.text.items bytes → IsRead walk.new.blocks.items walk.new.text.items bytes) }
     ensures place { (block : ℕ) → result ≡ Err (ChainError.BadChain block) → block ≡ last_of walk.old.blocks.items }
     ensures bad { W.told → (block : ℕ) → result ≡ Err (ChainError.BadChain block) → (next : ℕ) → Names next ((disk side (now (W.log world.old))).bytes block) → MayFollow (length walk.old.used) walk.old.blocks.items next → ⊥ }
     ensures steps { W.told → Steps (W.log world.old) (W.log world.new) (now (W.log world.old)) }
