@@ -1,0 +1,3 @@
+mod Bits
+mod Filling
+pub mod Counting
