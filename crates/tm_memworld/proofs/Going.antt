@@ -18,7 +18,8 @@ use Rattle.tm_memworld.specs.Site.{SiteView, blank, disk_of, zero_block, IsBy}
 use Rattle.tm_memworld.specs.Sites.{stands_in, site_at, path_at, IsFirst, AreSmall, AreBy}
 use Rattle.tm_memworld.specs.Contents.{Contents, view, attached_at, with_attached}
 use Rattle.tm_memworld.specs.Change.{back, log_in}
-use Rattle.tm_memworld.proofs.Record.{now-log_in, Steps-noted}
+use Rattle.tm_memworld.specs.Change.{now-log_in}
+use Rattle.tm_memworld.proofs.Record.{Steps-noted}
 use Rattle.tm_memworld.proofs.Views.{stands_at, disk-view, disk-view_none, view-set_disk}
 use Rattle.tm_memworld.proofs.Undo.{undo_write, undo_loosen, undo_sync, undo_took, undo_said}
 

@@ -15,7 +15,7 @@ use Rattle.tm_memworld.specs.Contents.{Contents, view}
 use Rattle.tm_memworld.specs.Change.{log_in}
 use Rattle.tm_memworld.specs.Putting.{with_script, with_room, placed}
 use Rattle.tm_memworld.proofs.Scripts.{scripts_in-push}
-use Rattle.tm_memworld.proofs.Record.{now-log_in}
+use Rattle.tm_memworld.specs.Change.{now-log_in}
 use Rattle.tm_memworld.proofs.Views.{view-set, view-push, room-set, room-push}
 
 -- what is outside, whatever the clock shows

@@ -11,8 +11,10 @@ mod plan;
 mod room;
 mod script;
 mod site;
+mod world;
 
 
 
 pub use error::Memory;
+pub use world::MemWorld;
 
