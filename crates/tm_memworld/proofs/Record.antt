@@ -1,8 +1,8 @@
 -- One more change joins the record.
-use Rattle.std.proofs.Common.{◌≡◌, ℕ, ◌+◌, ◌-◌, ◌<◌, ◌≤◌, List, [], ◌∷◌, ◌++◌, length, take, drop, refl, sym, ◌∙◌, ap, subst, arith}
-use Rattle.std.proofs.lemmas.List.{length-append, length-drop, drop-append-le, drop_all}
+use Rattle.std.proofs.Common.{◌≡◌, ℕ, ◌+◌, ◌≤◌, List, [], ◌∷◌, ◌++◌, length, drop, refl, sym, ◌∙◌, ap, subst, arith}
+use Rattle.std.proofs.lemmas.List.{length-append, drop-append-le, drop_all}
 use Rattle.tm_world.specs.Outside.{Outside}
-use Rattle.tm_world.specs.Log.{Log, now, Steps}
+use Rattle.tm_world.specs.Log.{Steps}
 use Rattle.tm_memworld.specs.declared.change.Change.{Change}
 use Rattle.tm_memworld.specs.Contents.{Contents, view}
 use Rattle.tm_memworld.specs.Change.{back, before, log_in, now-log_in}

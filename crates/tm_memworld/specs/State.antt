@@ -1,7 +1,7 @@
 -- What a world in memory shows: the outside, what there is memory for, and which calls fail.
-use Rattle.std.specs.Prelude.{ℕ, ◌+◌, ◌-◌, ◌++◌, Bool, false, ◌||◌, nat_lt, is_none, List, [], Option, Some, None, if◌then◌else◌}
+use Rattle.std.specs.Prelude.{ℕ, ◌+◌, ◌-◌, Bool, false, ◌||◌, nat_lt, is_none, List, [], Option, Some, None, if◌then◌else◌}
 use Rattle.tm_world.specs.Disk.{zeros, written, synced}
-use Rattle.tm_world.specs.Outside.{Outside, disk, put_at, put_disk, part_of}
+use Rattle.tm_world.specs.Outside.{Outside, disk, put_at, put_disk}
 use Rattle.tm_world.specs.declared.world.Part.{Part}
 use Rattle.tm_world.specs.declared.world.Part.TheVariants.{Volume as VolumePart, Store as StorePart, Script, Out}
 use Rattle.tm_world.specs.declared.world.Side.{Side}
@@ -9,7 +9,7 @@ use Rattle.tm_world.specs.declared.world.Side.TheVariants.{Volume, Store}
 use Rattle.tm_memworld.specs.Faults.{one_more, raised}
 use Rattle.tm_memworld.specs.Plan.{is_named}
 use Rattle.tm_memworld.specs.Torn.{loosened, stopped}
-use Rattle.tm_memworld.specs.Putting.{with_script, with_room, placed}
+use Rattle.tm_memworld.specs.Putting.{with_room, placed}
 use Rattle.tm_memworld.specs.Devices.{cannot_open}
 use Rattle.tm_memworld.specs.Nothing.{empty}
 

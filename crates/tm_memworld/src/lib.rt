@@ -4,7 +4,6 @@
 
 mod change;
 mod devices;
-
 mod error;
 mod faults;
 mod plan;
@@ -13,8 +12,5 @@ mod script;
 mod site;
 mod world;
 
-
-
 pub use error::Memory;
 pub use world::MemWorld;
-

@@ -11,13 +11,12 @@ ghost use Rattle.tm_memworld.specs.Putting.{with_script};
 ghost use Rattle.tm_memworld.specs.State.{start, is_cut, used, called, faulted, with_outside, after_write, after_failed_write, after_sync, cannot_attach, with_image, with_place, after_stop, with_more};
 ghost use Rattle.tm_memworld.specs.World.{state, clock, blocks_of};
 
-use std::alloc::Global;
-use tm_world::{Failed, Part, Side, World};
-
 use crate::devices::Devices;
 use crate::error::Memory;
 use crate::faults::Faults;
 use crate::plan::Plan;
+use std::alloc::Global;
+use tm_world::{Failed, Part, Side, World};
 
 /// Images and scripts in memory, by path, with one clock (`docs/DISKS.md`, "A world in memory").
 ///
@@ -125,6 +124,7 @@ impl MemWorld {
     // A call of a part fails, and changes nothing else.
     fn fail(&mut self, part: Part, writes: usize, said: usize)
         ensures state { state self.new ≡ faulted part (used writes said (state self.old)) }
+        ensures never_less { NeverLess (state self.old).faults (state self.new).faults }
         ensures steps { Steps (clock self.old) (clock self.new) (now (clock self.old)) }
     {
         self.devices.spend(writes, said);
@@ -135,13 +135,14 @@ impl MemWorld {
     fn fail_write(&mut self, side: Side, block: u32)
         requires { block < blocks_of self.old side }
         ensures state { state self.new ≡ faulted (part_of side) (used 1 0 (with_outside (after_failed_write side block (state self.old)) (state self.old))) }
+        ensures never_less { NeverLess (state self.old).faults (state self.new).faults }
         ensures steps { Steps (clock self.old) (clock self.new) (after_failed_write side block (state self.old)) }
     {
-        if self.devices.room().calls > 0 {
-            self.devices.loosen(side, block);
-        } else {
-            self.devices.spend(1, 0);
+        if self.devices.room().calls == 0 {
+            self.fail(part(side), 1, 0);
+            return;
         }
+        self.devices.loosen(side, block);
         self.faults.raise(part(side));
     }
 

@@ -1,4 +1,3 @@
-use Rattle.tm_memworld.specs.State.{start}
 use Rattle.tm_memworld.specs.World.{state}
 use Rattle.tm_memworld.proofs.world.MemWorld.new.Goals as goal
 
