@@ -1,5 +1,5 @@
 -- The site that is attached at a side, and what is written there.
-use Rattle.std.proofs.Common.{◌≡◌, ℕ, ◌+◌, ◌<◌, ◌≤◌, List, length, get_or, set, drop, Option, Some, None, refl, sym, ◌∙◌, ap, subst, arith}
+use Rattle.std.proofs.Common.{◌≡◌, ℕ, ◌<◌, ◌≤◌, length, get_or, set, drop, Some, sym, ◌∙◌, ap, subst, arith}
 use Rattle.tm_world.specs.Disk.{Disk}
 use Rattle.tm_world.specs.Outside.{Outside, disk}
 use Rattle.tm_world.specs.Log.{Log, Steps}

@@ -1,26 +1,25 @@
 -- A side or a script is attached.
-use Rattle.std.proofs.Common.{◌≡◌, ◌≢◌, ⊎_elim, ℕ, zero, suc, ◌+◌, ◌<◌, ◌≤◌, Bool, true, false, cond, ltb, List, [], ◌∷◌, ◌++◌, length, get_or, set, take, drop, Option, Some, None, unwrap_or, refl, sym, ◌∙◌, ap, subst, rules, tests, arith}
-use Rattle.std.proofs.lemmas.Bool.{cond-true, cond-false, cases_Bool, cases_lt}
-use Rattle.std.specs.Option.{option_map}
+use Rattle.std.proofs.Common.{◌≡◌, ⊎_elim, ℕ, ◌≤◌, true, false, cond, List, [], ◌∷◌, ◌++◌, length, set, drop, Option, Some, None, unwrap_or, refl, sym, ◌∙◌, ap, subst}
+use Rattle.std.proofs.lemmas.Bool.{cond-true, cond-false, cases_Bool}
 use Rattle.tm_world.specs.Disk.{Disk, nothing, zeros}
-use Rattle.tm_world.specs.Outside.{Outside, Place, is_place, place, disk, put_at, made, with_made, with_place, attached, part_of}
-use Rattle.tm_world.specs.Log.{Log, now, Steps}
+use Rattle.tm_world.specs.Outside.{Outside, Place, is_place, place, disk, put_at, made, with_place, attached, part_of}
+use Rattle.tm_world.specs.Log.{now, Steps}
 use Rattle.tm_world.specs.Runs.{other}
 use Rattle.tm_world.specs.declared.world.Side.{Side}
 use Rattle.tm_world.specs.declared.world.Side.TheVariants.{Volume, Store}
-use Rattle.tm_world.proofs.Sides.{is_place-true, is_place-same}
+use Rattle.tm_world.proofs.Sides.{is_place-true}
 use Rattle.tm_memworld.specs.declared.change.Change.{Change}
 use Rattle.tm_memworld.specs.declared.change.Change.TheVariants.{Attached, Started}
 use Rattle.tm_memworld.specs.declared.change.Opened.TheVariants.{Found, Made, Named}
 use Rattle.tm_memworld.specs.Script.{text_at, scripts_in}
 use Rattle.tm_world.specs.declared.world.Part.TheVariants.{Script}
-use Rattle.tm_memworld.specs.Site.{SiteView, blank, disk_in, disk_of}
-use Rattle.tm_memworld.specs.Sites.{stands_in, site_at, path_at, IsFirst, IsNowhere}
+use Rattle.tm_memworld.specs.Site.{SiteView, disk_of}
+use Rattle.tm_memworld.specs.Sites.{site_at, path_at, IsFirst, IsNowhere}
 use Rattle.tm_memworld.specs.Contents.{Contents, view, attached_at, attached_after, with_attached}
-use Rattle.tm_memworld.specs.Change.{back, log_in}
-use Rattle.tm_memworld.proofs.Views.{stands_at, view-set, view-push, path-set, path_last, stands_nowhere}
+use Rattle.tm_memworld.specs.Change.{log_in}
+use Rattle.tm_memworld.proofs.Views.{view-set, view-push, path-set, path_last, stands_nowhere}
 use Rattle.tm_memworld.proofs.Undo.{undo_found, undo_made, undo_named}
-use Rattle.tm_memworld.proofs.Going.{noted, seen}
+use Rattle.tm_memworld.proofs.Going.{noted}
 
 -- both sides' sites after one is attached
 pub with_attached-after : (side : Side) (i : ℕ) (c : Contents) → record c { volume = attached_after Volume side i c.volume; store = attached_after Store side i c.store } ≡ with_attached side (Some i) c
@@ -45,7 +44,7 @@ module _ (c : Contents) (began : ℕ) (changes more : List Change) (begun : bega
   pub made_steps : (s t : SiteView) (n : ℕ) → IsFirst c.sites i → s ≡ site_at c.sites i → s.count ≡ None → t ≡ record s { count = Some n } → disk_of t ≡ zeros n
       → more ≡ changes ++ Attached side (attached_at side c) Made ∷ []
       → Steps (log_in (drop began changes) c) (log_in (drop began more) (with_attached side (Some i) (record c { sites = set c.sites i t })))
-          (with_place side (Some (path_at c.sites i)) (put_at (Some (path_at c.sites i)) (zeros n) (now (log_in (drop began changes) c))))
+      (with_place side (Some (path_at c.sites i)) (put_at (Some (path_at c.sites i)) (zeros n) (now (log_in (drop began changes) c))))
   made_steps s t n first is none opened disk_then noted_is =
       let path : t.path ≡ path_at c.sites i = ap (λ (u : SiteView). u.path) opened ∙ ap (λ (u : SiteView). u.path) is in
       noted c began changes more begun (Attached side (attached_at side c) Made) (with_attached side (Some i) (record c { sites = set c.sites i t }))

@@ -1,24 +1,23 @@
 -- The clock goes on by a change.
-use Rattle.std.proofs.Common.{◌≡◌, ◌≢◌, ⊎_elim, ℕ, zero, suc, ◌+◌, ◌-◌, ◌<◌, ◌≤◌, List, [], ◌∷◌, ◌++◌, length, get_or, set, take, drop, min, Option, Some, None, refl, sym, ◌∙◌, ap, subst, arith}
-use Rattle.std.proofs.Math.ListN.{length-set}
+use Rattle.std.proofs.Common.{◌≡◌, ◌≢◌, ⊎_elim, ℕ, zero, suc, ◌+◌, ◌<◌, ◌≤◌, List, [], ◌∷◌, ◌++◌, length, get_or, set, drop, Option, Some, None, refl, sym, ◌∙◌, ap, subst, arith}
 use Rattle.std.proofs.lemmas.Bool.{cases_eq, cases_lt}
 use Rattle.std.proofs.lemmas.List.{get_or-set_same, get_or-set_other, set_past, get_or_read, drop-drop}
 use Rattle.tm_world.specs.Disk.{Disk, nothing, written, synced}
 use Rattle.tm_world.specs.Outside.{Outside, disk, put_disk, took, spoke}
-use Rattle.tm_world.specs.Log.{Log, now, Steps}
+use Rattle.tm_world.specs.Log.{now, Steps}
 use Rattle.tm_world.specs.declared.world.Side.{Side}
 use Rattle.tm_world.specs.declared.world.Side.TheVariants.{Volume, Store}
 use Rattle.tm_world.proofs.Sides.{put_disk_same}
-use Rattle.tm_world.proofs.Disks.{count_synced, differs-written}
 use Rattle.tm_memworld.specs.declared.change.Change.{Change}
-use Rattle.tm_memworld.specs.declared.change.Change.TheVariants.{Attached, Started, Wrote, Loosened, Synced, Took, Said}
+use Rattle.tm_memworld.specs.declared.change.Change.TheVariants.{Wrote, Loosened, Synced, Took, Said}
 use Rattle.tm_memworld.specs.Torn.{loosened}
 use Rattle.tm_memworld.specs.Script.{ScriptView, text_at, left_in}
 use Rattle.tm_memworld.specs.Site.{SiteView, blank, disk_of, zero_block, IsBy}
-use Rattle.tm_memworld.specs.Sites.{stands_in, site_at, path_at, IsFirst, AreSmall, AreBy}
-use Rattle.tm_memworld.specs.Contents.{Contents, view, attached_at, with_attached}
+use Rattle.tm_memworld.specs.Sites.{site_at, path_at, IsFirst, AreSmall}
+use Rattle.tm_memworld.specs.Contents.{Contents, view, attached_at}
 use Rattle.tm_memworld.specs.Change.{back, log_in}
-use Rattle.tm_memworld.proofs.Record.{now-log_in, Steps-noted}
+use Rattle.tm_memworld.specs.Change.{now-log_in}
+use Rattle.tm_memworld.proofs.Record.{Steps-noted}
 use Rattle.tm_memworld.proofs.Views.{stands_at, disk-view, disk-view_none, view-set_disk}
 use Rattle.tm_memworld.proofs.Undo.{undo_write, undo_loosen, undo_sync, undo_took, undo_said}
 
@@ -51,9 +50,9 @@ small_at sites i s small first is = subst (λ d. d.count ≤ 262144) (stands_at 
 le-set : (xs : List ℕ) (i v b bound : ℕ) → v ≤ bound → get_or xs b 0 ≤ bound → get_or (set xs i v) b 0 ≤ bound
 le-set xs i v b bound new old = ⊎_elim
     (λ (here : b ≡ i). ⊎_elim
-        (λ (lt : i < length xs). let is : get_or (set xs i v) b 0 ≡ v = ap (λ k. get_or (set xs i v) k 0) here ∙ get_or-set_same xs i v 0 lt in omega arith)
-        (λ (le : length xs ≤ i). let is : get_or (set xs i v) b 0 ≡ get_or xs b 0 = ap (λ ys. get_or ys b 0) (set_past xs i v le) in omega arith)
-        (cases_lt i (length xs)))
+    (λ (lt : i < length xs). let is : get_or (set xs i v) b 0 ≡ v = ap (λ k. get_or (set xs i v) k 0) here ∙ get_or-set_same xs i v 0 lt in omega arith)
+    (λ (le : length xs ≤ i). let is : get_or (set xs i v) b 0 ≡ get_or xs b 0 = ap (λ ys. get_or ys b 0) (set_past xs i v le) in omega arith)
+    (cases_lt i (length xs)))
     (λ (ne : b ≢ i). let is : get_or (set xs i v) b 0 ≡ get_or xs b 0 = get_or-set_other xs i b v 0 ne in omega arith)
     (cases_eq b i)
 
@@ -102,7 +101,7 @@ module _ (c : Contents) (began : ℕ) (changes : List Change) where
       pub write_steps : (block : ℕ) (bytes : List ℕ) (time before : ℕ) (was : List ℕ) (saved : List (List ℕ)) → t ≡ record s { blocks = set s.blocks block bytes; times = set s.times block time }
           → disk_of t ≡ written block bytes (disk_of s) → before ≡ get_or s.times block 0 → was ≡ get_or s.blocks block zero_block → saved ≡ c.saved ++ was ∷ [] → more ≡ changes ++ Wrote i block before ∷ []
           → Steps (log_in (drop began changes) c) (log_in (drop began more) (record c { sites = set c.sites i t; saved = saved }))
-              (put_disk side (written block bytes (disk side (now (log_in (drop began changes) c)))) (now (log_in (drop began changes) c)))
+          (put_disk side (written block bytes (disk side (now (log_in (drop began changes) c)))) (now (log_in (drop began changes) c)))
       write_steps block bytes time before was saved put disk_then before_is was_is saved_is noted_is =
           noted (Wrote i block before) (record c { sites = set c.sites i t; saved = saved }) (λ o. put_disk side (written block bytes (disk side o)) o) noted_is
           ((λ j. back (Wrote i block (before_is j)) (record c { sites = set c.sites i t; saved = (saved_is ∙ ap (λ w. c.saved ++ w ∷ []) was_is) j })) ∙ undo_write c i s t first.within is block bytes time put)
@@ -110,7 +109,7 @@ module _ (c : Contents) (began : ℕ) (changes : List Change) where
 
       pub loosen_steps : (block time before : ℕ) → t ≡ record s { times = set s.times block time } → disk_of t ≡ loosened block (disk_of s) → before ≡ get_or s.times block 0 → more ≡ changes ++ Loosened i block before ∷ []
           → Steps (log_in (drop began changes) c) (log_in (drop began more) (record c { sites = set c.sites i t }))
-              (put_disk side (loosened block (disk side (now (log_in (drop began changes) c)))) (now (log_in (drop began changes) c)))
+          (put_disk side (loosened block (disk side (now (log_in (drop began changes) c)))) (now (log_in (drop began changes) c)))
       loosen_steps block time before put disk_then before_is noted_is =
           noted (Loosened i block before) (record c { sites = set c.sites i t }) (λ o. put_disk side (loosened block (disk side o)) o) noted_is
           (ap (λ b. back (Loosened i block b) (record c { sites = set c.sites i t })) before_is ∙ undo_loosen c i s t first.within is block time put)
@@ -118,7 +117,7 @@ module _ (c : Contents) (began : ℕ) (changes : List Change) where
 
       pub sync_steps : (time before : ℕ) → t ≡ record s { settled = time } → disk_of t ≡ synced (disk_of s) → before ≡ s.settled → more ≡ changes ++ Synced i before ∷ []
           → Steps (log_in (drop began changes) c) (log_in (drop began more) (record c { sites = set c.sites i t }))
-              (put_disk side (synced (disk side (now (log_in (drop began changes) c)))) (now (log_in (drop began changes) c)))
+          (put_disk side (synced (disk side (now (log_in (drop began changes) c)))) (now (log_in (drop began changes) c)))
       sync_steps time before put disk_then before_is noted_is =
           noted (Synced i before) (record c { sites = set c.sites i t }) (λ o. put_disk side (synced (disk side o)) o) noted_is
           (ap (λ b. back (Synced i b) (record c { sites = set c.sites i t })) before_is ∙ undo_sync c i s t first.within is time put)

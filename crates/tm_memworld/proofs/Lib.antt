@@ -9,3 +9,4 @@ pub mod Attaching
 pub mod Opening
 pub mod Putting
 pub mod Tearing
+pub mod Outcomes

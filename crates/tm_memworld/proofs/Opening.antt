@@ -1,16 +1,16 @@
 -- What stands at a path that is to be attached, and whether it can be.
-use Rattle.std.proofs.Common.{◌≡◌, ◌≢◌, ◌⊎◌, inl, inr, ⊎_elim, ℕ, ◌+◌, ◌<◌, ◌≤◌, Bool, true, false, cond, ltb, ◌||◌, IsTrue, List, [], ◌∷◌, length, get_or, Option, Some, None, refl, sym, ◌∙◌, ap, subst, rules, tests, arith}
-use Rattle.std.proofs.lemmas.Bool.{cond-true, cond-false, cases_Bool, false≢true, false_from_ne_true}
+use Rattle.std.proofs.Common.{◌≡◌, ◌≢◌, ◌⊎◌, inl, inr, ℕ, ◌<◌, ◌≤◌, Bool, true, false, cond, ltb, ◌||◌, IsTrue, List, [], ◌∷◌, length, Option, Some, None, refl, sym, ◌∙◌, ap, subst, rules, tests, arith}
+use Rattle.std.proofs.lemmas.Bool.{cond-true, cond-false, false_from_ne_true}
 use Rattle.std.specs.Option.{option_map, is_some}
-use Rattle.tm_world.specs.Disk.{Disk, nothing, zeros}
+use Rattle.tm_world.specs.Disk.{Disk, nothing}
 use Rattle.tm_world.specs.Outside.{Outside, Place, is_place, place, disk, put_at, with_place}
 use Rattle.tm_world.specs.Log.{Log, now, Steps}
 use Rattle.tm_world.specs.Runs.{other}
 use Rattle.tm_world.specs.declared.world.Side.{Side}
-use Rattle.tm_world.proofs.Sides.{is_place-same, is_place-true, is_place-sym}
+use Rattle.tm_world.proofs.Sides.{is_place-same, is_place-true}
 use Rattle.tm_memworld.specs.Site.{SiteView, disk_in, disk_of}
-use Rattle.tm_memworld.specs.Sites.{stands_in, site_at, path_at, room_at, IsFirst, IsNowhere}
-use Rattle.tm_memworld.specs.Contents.{Contents, view, attached_at}
+use Rattle.tm_memworld.specs.Sites.{stands_in, site_at, path_at, IsFirst, IsNowhere}
+use Rattle.tm_memworld.specs.Contents.{view, attached_at}
 use Rattle.tm_memworld.specs.Devices.{contents_of, outside, places_of, cannot_make, cannot_open}
 use Rattle.tm_memworld.specs.declared.devices.Devices.{Devices}
 use Rattle.tm_memworld.proofs.Views.{stands_at, stands_nowhere, room_nowhere, room_here, place-view, first_once}
@@ -114,9 +114,9 @@ module _ (d : Devices) (path : List ℕ) where
     elsewhere : (at : Option ℕ) → at ≢ Some i → ((k : ℕ) → at ≡ Some k → IsFirst d.sites.items k) → is_place (option_map (path_at d.sites.items) at) (Some path) ≡ false
     elsewhere None ne firsts = refl
     elsewhere (Some k) ne firsts = false_from_ne_true _ (λ same.
-      let one : Some (path_at d.sites.items k) ≡ Some path = is_place-true (Some (path_at d.sites.items k)) (Some path) same in
-      let paths : path_at d.sites.items k ≡ path_at d.sites.items i = cc in
-      ne (ap Some (first_once d.sites.items k i (firsts k refl) first paths)))
+        let one : Some (path_at d.sites.items k) ≡ Some path = is_place-true (Some (path_at d.sites.items k)) (Some path) same in
+        let paths : path_at d.sites.items k ≡ path_at d.sites.items i = cc in
+        ne (ap Some (first_once d.sites.items k i (firsts k refl) first paths)))
 
     pub not_at_other : (side : Side) → attached_at side (contents_of d) ≢ Some i → is_place (place side (outside d)) (Some path) ≡ false
     not_at_other side ne = subst (λ p. is_place p (Some path) ≡ false) (sym (ap (place side) (sym is_seen) ∙ place-view side (contents_of d)))

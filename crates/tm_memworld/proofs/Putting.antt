@@ -1,21 +1,21 @@
 -- Images and scripts are put, and the clock begins anew.
-use Rattle.std.proofs.Common.{◌≡◌, ⊎_elim, ℕ, ◌+◌, ◌<◌, ◌≤◌, Bool, true, false, cond, List, [], ◌∷◌, ◌++◌, length, get_or, set, take, drop, Option, Some, None, Result, Ok, Err, OnOk, OnErr, refl, sym, ◌∙◌, ap, subst, arith}
+use Rattle.std.proofs.Common.{◌≡◌, ⊎_elim, ℕ, ◌<◌, true, false, cond, List, [], ◌∷◌, ◌++◌, length, set, drop, Option, Some, None, Result, Ok, Err, OnOk, OnErr, refl, sym, ◌∙◌, ap}
 use Rattle.std.proofs.lemmas.Bool.{cond-true, cond-false, cases_Bool}
-use Rattle.std.proofs.lemmas.List.{drop_all, get_or_append_left, length-append}
+use Rattle.std.proofs.lemmas.List.{get_or_append_left}
 use Rattle.std.specs.Option.{option_or}
 use Rattle.std.specs.Str.{bytes_eq}
 use Rattle.tm_world.specs.Disk.{Disk, nothing}
 use Rattle.tm_world.specs.Outside.{Outside, put_at}
 use Rattle.tm_world.specs.Log.{now}
 use Rattle.tm_memworld.specs.declared.change.Change.{Change}
-use Rattle.tm_memworld.specs.Script.{ScriptView, scripts_in, text_at, left_in}
+use Rattle.tm_memworld.specs.Script.{ScriptView, scripts_in, left_in}
 use Rattle.tm_memworld.specs.Site.{SiteView, disk_of}
 use Rattle.tm_memworld.specs.Sites.{path_at, room_at, IsFirst, IsNowhere}
 use Rattle.tm_memworld.specs.Contents.{Contents, view}
 use Rattle.tm_memworld.specs.Change.{log_in}
 use Rattle.tm_memworld.specs.Putting.{with_script, with_room, placed}
 use Rattle.tm_memworld.proofs.Scripts.{scripts_in-push}
-use Rattle.tm_memworld.proofs.Record.{now-log_in}
+use Rattle.tm_memworld.specs.Change.{now-log_in}
 use Rattle.tm_memworld.proofs.Views.{view-set, view-push, room-set, room-push}
 
 -- what is outside, whatever the clock shows

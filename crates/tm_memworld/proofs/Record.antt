@@ -1,19 +1,15 @@
 -- One more change joins the record.
-use Rattle.std.proofs.Common.{◌≡◌, ℕ, ◌+◌, ◌-◌, ◌<◌, ◌≤◌, List, [], ◌∷◌, ◌++◌, length, take, drop, refl, sym, ◌∙◌, ap, subst, arith}
-use Rattle.std.proofs.lemmas.List.{length-append, length-drop, drop-append-le, drop_all}
+use Rattle.std.proofs.Common.{◌≡◌, ℕ, ◌+◌, ◌≤◌, List, [], ◌∷◌, ◌++◌, length, drop, refl, sym, ◌∙◌, ap, subst, arith}
+use Rattle.std.proofs.lemmas.List.{length-append, drop-append-le, drop_all}
 use Rattle.tm_world.specs.Outside.{Outside}
-use Rattle.tm_world.specs.Log.{Log, now, Steps}
+use Rattle.tm_world.specs.Log.{Steps}
 use Rattle.tm_memworld.specs.declared.change.Change.{Change}
 use Rattle.tm_memworld.specs.Contents.{Contents, view}
-use Rattle.tm_memworld.specs.Change.{back, before, log_in}
+use Rattle.tm_memworld.specs.Change.{back, before, log_in, now-log_in}
 
 before-push : (changes : List Change) (change : Change) (c : Contents) → before (changes ++ change ∷ []) c ≡ before changes (back change c)
 before-push [] change c = refl
 before-push (first ∷ changes) change c = ap (back first) (before-push changes change c)
-
--- the last moment is what is there now
-pub now-log_in : (changes : List Change) (c : Contents) → now (log_in changes c) ≡ view c
-now-log_in changes c = ap (λ cs. view (before cs c)) (drop_all (length changes) changes (omega arith))
 
 past-push : (changes : List Change) (change : Change) (c later : Contents) → back change later ≡ c → (k : ℕ) → k ≤ length changes
     → view (before (drop k (changes ++ change ∷ [])) later) ≡ view (before (drop k changes) c)

@@ -1,11 +1,11 @@
 -- The disk of a site, and what each change of the site makes of it.
-use Rattle.std.proofs.Common.{◌≡◌, ◌≢◌, ⊎_elim, ℕ, ◌+◌, ◌<◌, ◌≤◌, Bool, true, false, cond, eqb, ltb, List, length, get_or, set, replicate, Option, Some, None, refl, sym, ◌∙◌, ap, subst, rules, tests, arith}
-use Rattle.std.proofs.Math.ListN.{length-set, length-replicate}
-use Rattle.std.proofs.lemmas.Bool.{cond-true, cond-false, cases_eq, cases_lt, cases_Bool, eq-eqb, ne_eqb}
+use Rattle.std.proofs.Common.{◌≡◌, ◌≢◌, ⊎_elim, ℕ, ◌<◌, ◌≤◌, true, false, cond, eqb, ltb, List, length, get_or, set, replicate, Option, Some, None, refl, sym, ◌∙◌, ap, rules, tests, arith}
+use Rattle.std.proofs.Math.ListN.{length-replicate}
+use Rattle.std.proofs.lemmas.Bool.{cond-true, cond-false, cases_eq, cases_lt, eq-eqb, ne_eqb}
 use Rattle.std.proofs.lemmas.List.{get_or-set_same, get_or-set_other, get_or-replicate, get_or_past}
-use Rattle.tm_world.specs.Disk.{Disk, nothing, zeros, written, synced}
+use Rattle.tm_world.specs.Disk.{nothing, zeros, written, synced}
 use Rattle.tm_memworld.specs.Torn.{loosened, torn_disk}
-use Rattle.tm_memworld.specs.Site.{SiteView, disk_in, disk_of, count_at, zero_block, IsWhole, IsBy, blank}
+use Rattle.tm_memworld.specs.Site.{disk_in, disk_of, zero_block, IsWhole, blank}
 
 get_or-set : {X : Type 0} (xs : List X) (i : ℕ) (v d : X) (b : ℕ) → i < length xs → get_or (set xs i v) b d ≡ cond (eqb b i) v (get_or xs b d)
 get_or-set xs i v d b lt = ⊎_elim

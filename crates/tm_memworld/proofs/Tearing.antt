@@ -1,6 +1,6 @@
 -- Each site is torn.
-use Rattle.std.proofs.Common.{◌≡◌, ⊎_elim, ℕ, zero, suc, ◌+◌, ◌<◌, ◌≤◌, Bool, true, false, cond, List, [], ◌∷◌, length, get_or, drop, Option, Some, None, refl, sym, ◌∙◌, ap, subst, arith}
-use Rattle.std.proofs.lemmas.Bool.{cond-true, cond-false, cases_Bool, cases_lt}
+use Rattle.std.proofs.Common.{◌≡◌, ⊎_elim, ℕ, suc, ◌<◌, ◌≤◌, Bool, true, false, cond, List, [], ◌∷◌, length, drop, Option, Some, None, refl, sym, ◌∙◌, ap, subst, arith}
+use Rattle.std.proofs.lemmas.Bool.{cond-false, cases_lt}
 use Rattle.std.proofs.lemmas.List.{get_or_past}
 use Rattle.std.specs.Option.{option_map}
 use Rattle.std.specs.Str.{bytes_eq}
@@ -13,7 +13,7 @@ use Rattle.tm_world.specs.declared.world.Side.TheVariants.{Volume, Store}
 use Rattle.tm_memworld.specs.declared.change.Change.{Change}
 use Rattle.tm_memworld.specs.Torn.{torn_disk, stopped}
 use Rattle.tm_memworld.specs.Site.{SiteView, blank, disk_of, IsBy}
-use Rattle.tm_memworld.specs.Sites.{stands_in, room_at, site_at, path_at, IsFirst, AreSmall, AreBy, IsTorn, AreTorn}
+use Rattle.tm_memworld.specs.Sites.{stands_in, room_at, path_at, IsFirst, AreSmall, AreBy, AreTorn}
 use Rattle.tm_memworld.specs.Contents.{Contents, view}
 use Rattle.tm_memworld.specs.Change.{log_in}
 use Rattle.tm_memworld.proofs.Putting.{now-any}

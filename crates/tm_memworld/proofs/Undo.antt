@@ -1,10 +1,9 @@
 -- Each change is undone.
-use Rattle.std.proofs.Common.{◌≡◌, ◌≢◌, ⊎_elim, ℕ, zero, suc, ◌+◌, ◌-◌, ◌<◌, ◌≤◌, List, [], ◌∷◌, ◌++◌, length, get_or, set, take, drop, Option, Some, None, refl, sym, ◌∙◌, ap, subst, arith}
+use Rattle.std.proofs.Common.{◌≡◌, ℕ, ◌+◌, ◌-◌, ◌<◌, List, [], ◌∷◌, ◌++◌, length, get_or, set, take, Some, None, refl, sym, ◌∙◌, ap, arith}
 use Rattle.std.proofs.lemmas.List.{get_or-set_same, set-set, set-get_or, length-append, take_at, get_or_at}
 use Rattle.tm_world.specs.declared.world.Side.{Side}
 use Rattle.tm_world.specs.declared.world.Side.TheVariants.{Volume, Store}
-use Rattle.tm_memworld.specs.declared.change.Change.{Change}
-use Rattle.tm_memworld.specs.declared.change.Change.TheVariants.{Attached, Started, Wrote, Loosened, Synced, Took, Said}
+use Rattle.tm_memworld.specs.declared.change.Change.TheVariants.{Attached, Wrote, Loosened, Synced, Took, Said}
 use Rattle.tm_memworld.specs.declared.change.Opened.TheVariants.{Found, Made, Named}
 use Rattle.tm_memworld.specs.Site.{SiteView, blank, zero_block}
 use Rattle.tm_memworld.specs.Sites.{site_at}
@@ -39,9 +38,9 @@ module _ (c : Contents) (i : ℕ) (s t : SiteView) (lt : i < length c.sites) (is
           blocks = set u.blocks block (get_or (c.saved ++ get_or s.blocks block zero_block ∷ []) (length (c.saved ++ get_or s.blocks block zero_block ∷ []) - 1) zero_block);
           times = set u.times block (get_or s.times block 0);
         })) then
-        ∙ ap (λ b. set (set c.sites i t) i (record s { blocks = set (set s.blocks block bytes) block b; times = set (set s.times block time) block (get_or s.times block 0) }))
+            ∙ ap (λ b. set (set c.sites i t) i (record s { blocks = set (set s.blocks block bytes) block b; times = set (set s.times block time) block (get_or s.times block 0) }))
             (last-push c.saved (get_or s.blocks block zero_block) zero_block)
-        ∙ ap (set (set c.sites i t) i) was ∙ put_back c.sites i t s is) j;
+            ∙ ap (set (set c.sites i t) i) was ∙ put_back c.sites i t s is) j;
         saved = front-push c.saved (get_or s.blocks block zero_block) j;
       }
 
@@ -53,7 +52,7 @@ module _ (c : Contents) (i : ℕ) (s t : SiteView) (lt : i < length c.sites) (is
       let was : old ≡ s = λ j. record s { times = (set-set s.times block time _ ∙ set-get_or s.times block 0) j } in
       λ j. record c {
         sites = (ap (λ (u : SiteView). set (set c.sites i t) i (record u { times = set u.times block (get_or s.times block 0) })) then
-        ∙ ap (set (set c.sites i t) i) was ∙ put_back c.sites i t s is) j;
+            ∙ ap (set (set c.sites i t) i) was ∙ put_back c.sites i t s is) j;
       }
 
   pub undo_sync : (time : ℕ) → t ≡ record s { settled = time } → back (Synced i s.settled) (record c { sites = set c.sites i t }) ≡ c

@@ -1,12 +1,12 @@
 -- A list of sites, seen as what stands at each place.
-use Rattle.std.proofs.Common.{◌≡◌, ◌≢◌, inl, inr, ⊎_elim, ℕ, zero, suc, ◌+◌, ◌<◌, ◌≤◌, Bool, true, false, cond, List, [], ◌∷◌, ◌++◌, length, get_or, set, Option, Some, None, refl, sym, ◌∙◌, ap, subst, arith}
+use Rattle.std.proofs.Common.{◌≡◌, ◌≢◌, ⊎_elim, ℕ, zero, suc, ◌<◌, ◌≤◌, Bool, true, false, cond, List, [], ◌∷◌, ◌++◌, length, set, Option, Some, None, refl, sym, ◌∙◌, ap, subst, arith}
 use Rattle.std.proofs.lemmas.Bool.{cond-true, cond-false, cases_Bool, cases_eq, cases_lt}
 use Rattle.std.proofs.lemmas.List.{get_or-set_same, get_or-set_other, length-set, get_or_append_left, length-append, get_or_at}
 use Rattle.std.proofs.lemmas.Slice.Eq.{bytes_eq-Decides}
 use Rattle.std.specs.Option.{option_map}
 use Rattle.std.specs.Str.{bytes_eq}
-use Rattle.tm_world.specs.Disk.{Disk, nothing}
-use Rattle.tm_world.specs.Outside.{Outside, Place, is_place, place, disk, put_at, put_disk}
+use Rattle.tm_world.specs.Disk.{nothing}
+use Rattle.tm_world.specs.Outside.{Place, is_place, place, disk, put_at, put_disk}
 use Rattle.tm_world.specs.declared.world.Side.{Side}
 use Rattle.tm_world.specs.declared.world.Side.TheVariants.{Volume, Store}
 use Rattle.tm_world.proofs.Sides.{is_place-same, is_place-true}
@@ -238,9 +238,9 @@ first_once sites i k one two same =
     ⊎_elim
     (λ (below : i < k). let differ : is_place (Some (path_at sites i)) (Some (path_at sites k)) ≡ false = two.others i below in cc)
     (λ (le : k ≤ i). ⊎_elim
-        (λ (above : k < i). let differ : is_place (Some (path_at sites k)) (Some (path_at sites i)) ≡ false = one.others k above in cc)
-        (λ (ge : i ≤ k). omega arith)
-        (cases_lt k i))
+    (λ (above : k < i). let differ : is_place (Some (path_at sites k)) (Some (path_at sites i)) ≡ false = one.others k above in cc)
+    (λ (ge : i ≤ k). omega arith)
+    (cases_lt k i))
     (cases_lt i k)
 
 -- a path that is noted without memory for an image

@@ -1,6 +1,8 @@
 -- What undoes a change, and the clock that a list of changes tells.
-use Rattle.std.specs.Prelude.{ℕ, ◌-◌, List, [], ◌∷◌, ◌++◌, length, take, drop, Option, Some, None, slice_index_or, slice_set}
-use Rattle.tm_world.specs.Log.{Log}
+use Rattle.std.specs.Prelude.{◌≡◌, ℕ, ◌-◌, List, [], ◌∷◌, length, take, drop, Option, Some, None, slice_index_or, slice_set}
+use Rattle.std.proofs.Common.{ap, arith}
+use Rattle.std.proofs.lemmas.List.{drop_all}
+use Rattle.tm_world.specs.Log.{Log, now}
 use Rattle.tm_memworld.specs.Site.{SiteView, zero_block}
 use Rattle.tm_memworld.specs.Sites.{site_at}
 use Rattle.tm_memworld.specs.Contents.{Contents, view, attached_at, with_attached}
@@ -45,3 +47,7 @@ before (change ∷ rest) c = back change (before rest c)
 -- a moment for each change, and one before them
 abbrev pub log_in : List Change → Contents → Log
 log_in changes c = record { moment = length changes; past = λ k. view (before (drop k changes) c) }
+
+-- the last moment is what is there now
+pub now-log_in : (changes : List Change) (c : Contents) → now (log_in changes c) ≡ view c
+now-log_in changes c = ap (λ cs. view (before cs c)) (drop_all (length changes) changes (omega arith))

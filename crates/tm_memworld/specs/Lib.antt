@@ -10,3 +10,5 @@ pub mod Change
 pub mod Devices
 pub mod Nothing
 pub mod Putting
+pub mod State
+pub mod World

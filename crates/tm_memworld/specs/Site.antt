@@ -1,6 +1,6 @@
 -- What is kept at a path: the blocks of an image, and when each of them was written and all were synced.
 -- Times are numbers of changes in the record.
-use Rattle.std.specs.Prelude.{◌≡◌, ◌≤◌, ℕ, Bool, true, List, [], length, Option, Some, None, replicate, slice_index_or, slice_index, slice_set, nat_lt, if◌then◌else◌, ◌==◌}
+use Rattle.std.specs.Prelude.{◌≡◌, ◌≤◌, ℕ, true, List, length, Option, Some, None, replicate, slice_index_or, slice_index, nat_lt}
 use Rattle.std.specs.Option.{ForSome}
 use Rattle.tm_world.specs.Disk.{Disk, nothing}
 

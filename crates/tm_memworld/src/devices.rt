@@ -8,13 +8,12 @@ ghost use Rattle.std.specs.Prelude.{◌≡◌, ◌+◌, ◌<◌, ◌≤◌, leng
 ghost use Rattle.std.specs.Option.{ForSome};
 ghost use Rattle.tm_memworld.specs.Sites.{IsFirst, AreSmall, AreBy};
 
-use std::alloc::{AllocError, Global};
-use tm_world::Side;
-
 use crate::change::Change;
 use crate::room::Room;
 use crate::script::Script;
 use crate::site::Site;
+use std::alloc::{AllocError, Global};
+use tm_world::Side;
 
 /// What is outside, in memory, and what was there before each change since it began.
 #[derive(Drop)]

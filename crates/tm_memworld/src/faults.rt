@@ -12,6 +12,7 @@ pub struct Faults {
 
 impl Faults {
     ghost use Rattle.std.specs.Prelude.{◌≡◌};
+    ghost use Rattle.tm_world.specs.Faults.{NeverLess};
     ghost use Rattle.tm_memworld.specs.Faults.{count_of, raised};
 
     /// No part failed.
@@ -28,7 +29,8 @@ impl Faults {
 
     /// One fault more of a part.
     pub fn raise(&mut self, part: Part)
-        ensures { count_of self.new ≡ raised part (count_of self.old) }
+        ensures raised { count_of self.new ≡ raised part (count_of self.old) }
+        ensures never_less { NeverLess (count_of self.old) (count_of self.new) }
     {
         match part {
             Part::Volume => self.volume = self.volume.saturating_add(1),

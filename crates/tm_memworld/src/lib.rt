@@ -4,15 +4,13 @@
 
 mod change;
 mod devices;
-
 mod error;
 mod faults;
 mod plan;
 mod room;
 mod script;
 mod site;
-
-
+mod world;
 
 pub use error::Memory;
-
+pub use world::MemWorld;

@@ -6,11 +6,10 @@ ghost use Rattle.tm_world.specs.Disk.{written, synced, zeros};
 ghost use Rattle.tm_memworld.specs.Torn.{loosened, torn_disk};
 ghost use Rattle.tm_memworld.specs.Site.{SiteView, blank, disk_of, count_at, IsBy, zero_block};
 
+use blocks::{tear_blocks, zero_blocks, zero_times};
 use smallvec::SmallVec;
 use std::alloc::{AllocError, Global};
 use std::marker::Model;
-
-use blocks::{tear_blocks, zero_blocks, zero_times};
 
 /// The bytes of a path. Those of at most 1,023 bytes, which no path of macOS exceeds, take no memory.
 pub type PathBytes = SmallVec<u8, 1023>;

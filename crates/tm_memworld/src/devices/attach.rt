@@ -12,13 +12,12 @@ ghost use Rattle.tm_memworld.specs.Sites.{IsFirst, IsNowhere, site_at, path_at};
 ghost use Rattle.tm_memworld.specs.Contents.{attached_at, with_attached, attached_after};
 ghost use Rattle.tm_memworld.specs.Devices.{contents_of, log_of, outside, places_of, cannot_open};
 
-use tm_world::Side;
-
 use super::Devices;
 use super::find::find;
 use crate::change::{Change, Opened};
 use crate::script::find_script;
 use crate::site::{SHORT_PATH, Site};
+use tm_world::Side;
 
 // The other of the two.
 fn opposite(side: Side) -> Side
@@ -96,7 +95,9 @@ impl Devices {
             self.spend(0, 0);
             return false;
         };
-        let noted = self.changes.push(Change::Started(self.script, self.position));
+        let noted = self
+            .changes
+            .push(Change::Started(self.script, self.position));
         prove!(noted.is_ok());
         self.script = Some(i);
         self.position = 0;

@@ -9,11 +9,10 @@ ghost use Rattle.tm_memworld.specs.Room.{spent};
 ghost use Rattle.tm_memworld.specs.Script.{left_in};
 ghost use Rattle.tm_memworld.specs.Devices.{log_of, outside, places_of};
 
-use tm_world::Side;
-
 use super::Devices;
 use crate::change::Change;
 use crate::script::Script;
+use tm_world::Side;
 
 // What is left of a script of which so many bytes were taken.
 fn rest(scripts: &[Script], script: Option<usize>, position: usize) -> &[u8]
@@ -86,7 +85,9 @@ impl Devices {
         };
         let time = self.changes.len() + 1;
         let before = self.sites[i].loosen(block as usize, time);
-        let noted = self.changes.push(Change::Loosened(i, block as usize, before));
+        let noted = self
+            .changes
+            .push(Change::Loosened(i, block as usize, before));
         prove!(noted.is_ok());
         self.room = self.room.spent(1, 0);
     }

@@ -8,12 +8,11 @@ ghost use Rattle.tm_memworld.specs.Sites.{AreTorn, AreBy};
 ghost use Rattle.tm_memworld.specs.Putting.{with_script, with_room, placed};
 ghost use Rattle.tm_memworld.specs.Devices.{log_of, outside, places_of};
 
-use std::alloc::AllocError;
-
 use super::Devices;
 use super::find::find;
 use crate::script::Script;
 use crate::site::Site;
+use std::alloc::AllocError;
 
 // Tears each image.
 fn tear_all(sites: &mut [Site], torn: &[u8; 4096], time: usize)

@@ -1,11 +1,9 @@
-use Rattle.std.proofs.Common.{◌≡◌, ◌≢◌, ◌<◌, ◌≤◌, ◌∙◌, ℕ, Bool, true, false, List, Option, Some, None, IsTrue, length, get_or, inl, inr, refl, sym, ap, subst, rules, arith}
-use Rattle.std.specs.Option.{is_some}
+use Rattle.std.proofs.Common.{◌≡◌, ◌∙◌, Some, None, inl, inr, refl, sym, ap, subst, rules, arith}
 use Rattle.tm_world.specs.Disk.{Disk, nothing, zeros}
-use Rattle.tm_world.specs.Outside.{Outside, is_place, place, disk, put_at, with_place, attached, part_of}
+use Rattle.tm_world.specs.Outside.{place, put_at, with_place, attached, part_of}
 use Rattle.tm_world.specs.Log.{Steps}
 use Rattle.tm_world.specs.Runs.{other}
 use Rattle.tm_world.proofs.Sides.{is_place-sym}
-use Rattle.tm_memworld.specs.Site.{SiteView, disk_of}
 use Rattle.tm_memworld.specs.Sites.{site_at, path_at, IsFirst, IsNowhere}
 use Rattle.tm_memworld.specs.Contents.{attached_at}
 use Rattle.tm_memworld.specs.Devices.{contents_of, log_of, outside, places_of, cannot_open}
@@ -23,8 +21,8 @@ returns-then-is_some-clause-none c =
     cannot_so (cannot_open c.args.side c.args.path.now c.args.create (places_of d) (outside d))
     (empty_there c.args.side c.args.path.now c.args.create (places_of d) (outside d) none
     ∙ unknown c.args.side c.args.path.now c.args.create (places_of d) (outside d) (no_room d c.args.path.now nowhere) c.requires.create (elim c.then-is_some.branch [
-      then-is_some-via-then-is_some w ↦ inl (search rules)
-    | then-is_some-via-else-is_some+then-path-gt-SHORT_PATH w ↦ inr w.if-path-gt-SHORT_PATH.true
+      | then-is_some-via-then-is_some w ↦ inl (search rules)
+      | then-is_some-via-else-is_some+then-path-gt-SHORT_PATH w ↦ inr w.if-path-gt-SHORT_PATH.true
     ]))
 
 pub returns-in_default-clause-steps : goal.returns-in_default-clause-steps
@@ -81,8 +79,11 @@ pub returns-in-Some-count-clause-most : goal.returns-in-Some-count-clause-most
 returns-in-Some-count-clause-most c =
     let d = c.args.self.now in
     let first : IsFirst d.sites.items c.in-Some.i = subst (λ xs. IsFirst xs c.in-Some.i) c.deref.ensures.value c.in-Some.ensures.first in
-    omega (arith, small_is d (path_at d.sites.items c.in-Some.i) c.in-Some.i c.index.result.now first refl (site_is d.sites.items c.in-Some.i c.index.result.now first.within c.index.ensures),
-    count-some c.index.result.now c.in-Some-count.count (sym c.in-Some-count.ensures))
+    omega (
+      arith,
+      small_is d (path_at d.sites.items c.in-Some.i) c.in-Some.i c.index.result.now first refl (site_is d.sites.items c.in-Some.i c.index.result.now first.within c.index.ensures),
+      count-some c.index.result.now c.in-Some-count.count (sym c.in-Some-count.ensures),
+    )
 
 pub returns-in-Some-count-clause-other : goal.returns-in-Some-count-clause-other
 returns-in-Some-count-clause-other c =
@@ -141,10 +142,10 @@ returns-then-count-capacity-clause-none c =
     cannot_so (cannot_open c.args.side c.args.path.now c.args.create (places_of d) (outside d))
     (ap (λ o. cannot_open c.args.side c.args.path.now o (places_of d) (outside d)) c.in-Some-create.is ∙ empty_there c.args.side c.args.path.now (Some c.in-Some-create.count) (places_of d) (outside d) none
     ∙ elim c.then-count-capacity.branch [
-      then-count-capacity-via-then-count-capacity w ↦ too_few c.args.side c.args.path.now c.in-Some-create.count (places_of d) (outside d) (omega (arith, room, c.capacity.ensures.count, w.if-count-capacity.true))
-    | then-count-capacity-via-else-count-capacity+then-eq w ↦ other_there c.args.side c.args.path.now c.in-Some-create.count (places_of d) (outside d)
-      (at_other d c.args.path.now c.in-Some.i c.index.result.now first path_is is (other c.args.side)
-      (sym (w.site_of.ensures ∙ ap (λ a. attached_at a (contents_of d)) w.opposite.ensures) ∙ (search rules)))
+      | then-count-capacity-via-then-count-capacity w ↦ too_few c.args.side c.args.path.now c.in-Some-create.count (places_of d) (outside d) (omega (arith, room, c.capacity.ensures.count, w.if-count-capacity.true))
+      | then-count-capacity-via-else-count-capacity+then-eq w ↦ other_there c.args.side c.args.path.now c.in-Some-create.count (places_of d) (outside d)
+          (at_other d c.args.path.now c.in-Some.i c.index.result.now first path_is is (other c.args.side)
+          (sym (w.site_of.ensures ∙ ap (λ a. attached_at a (contents_of d)) w.opposite.ensures) ∙ (search rules)))
     ])
 
 -- E7: an image is made
@@ -189,5 +190,5 @@ returns-clause-other c =
     let is : c.index.result.now ≡ site_at d.sites.items c.in-Some.i = site_is d.sites.items c.in-Some.i c.index.result.now first.within c.index.ensures in
     ap (λ (e : Disk). e.count) (disk_beside (log_of d) (log_of c.attach_made.new.self) c.args.side path (put_at (Some path) (zeros c.in-Some-create.count) (outside d)) c.attach_made.ensures.steps
     ∙ disk-put_at_other (other c.args.side) (Some path) (zeros c.in-Some-create.count) (outside d)
-        (is_place-sym (place (other c.args.side) (outside d)) (Some path) (not_at_other d path c.in-Some.i c.index.result.now first refl is (other c.args.side)
-        (λ at. let there : c.site_of.result ≡ Some c.in-Some.i = c.site_of.ensures ∙ ap (λ a. attached_at a (contents_of d)) c.opposite.ensures ∙ at in search rules))))
+    (is_place-sym (place (other c.args.side) (outside d)) (Some path) (not_at_other d path c.in-Some.i c.index.result.now first refl is (other c.args.side)
+    (λ at. let there : c.site_of.result ≡ Some c.in-Some.i = c.site_of.ensures ∙ ap (λ a. attached_at a (contents_of d)) c.opposite.ensures ∙ at in search rules))))

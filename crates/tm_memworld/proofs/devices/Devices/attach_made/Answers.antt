@@ -1,4 +1,4 @@
-use Rattle.std.proofs.Common.{◌≡◌, ◌∙◌, ◌++◌, ◌∷◌, [], ◌≤◌, ℕ, List, Some, length, set, sym, ap, subst, arith}
+use Rattle.std.proofs.Common.{◌≡◌, ◌∙◌, ◌++◌, ◌∷◌, [], ℕ, List, Some, length, set, sym, ap, subst, arith}
 use Rattle.tm_world.specs.Disk.{Disk}
 use Rattle.tm_memworld.specs.declared.change.Change.TheVariants.{Attached}
 use Rattle.tm_memworld.specs.declared.change.Opened.TheVariants.{Made}

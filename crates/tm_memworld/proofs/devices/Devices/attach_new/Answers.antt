@@ -1,10 +1,9 @@
-use Rattle.std.proofs.Common.{◌≡◌, ◌∙◌, ◌++◌, ◌∷◌, [], ◌≤◌, ◌<◌, Bool, true, false, ℕ, List, Some, cond, length, set, refl, sym, ap, subst, rules, arith}
-use Rattle.std.proofs.lemmas.Bool.{cond-true, cond-false, cases_Bool}
+use Rattle.std.proofs.Common.{◌≡◌, ◌∙◌, ◌++◌, ◌∷◌, [], ℕ, List, Some, length, refl, sym, ap, subst, rules, arith}
 use Rattle.tm_world.specs.Disk.{Disk}
 use Rattle.tm_memworld.specs.declared.change.Change.TheVariants.{Attached}
 use Rattle.tm_memworld.specs.declared.change.Opened.TheVariants.{Named}
-use Rattle.tm_memworld.specs.Site.{SiteView, blank, disk_of, IsBy}
-use Rattle.tm_memworld.specs.Sites.{path_at, room_at, IsFirst, IsNowhere, AreSmall, AreBy}
+use Rattle.tm_memworld.specs.Site.{SiteView, blank, IsBy}
+use Rattle.tm_memworld.specs.Sites.{room_at, IsFirst, AreSmall, AreBy}
 use Rattle.tm_memworld.specs.Contents.{Contents, with_attached}
 use Rattle.tm_memworld.specs.Devices.{contents_of}
 use Rattle.tm_memworld.proofs.Sites.{disk-blank}

@@ -1,4 +1,4 @@
-use Rattle.std.proofs.Common.{◌≡◌, ◌∙◌, ◌<◌, ℕ, Some, length, sym, subst, rules, arith}
+use Rattle.std.proofs.Common.{◌≡◌, ◌<◌, Some, length, subst, rules, arith}
 use Rattle.tm_memworld.specs.Script.{text_at, scripts_in}
 use Rattle.tm_memworld.specs.Devices.{contents_of}
 use Rattle.tm_memworld.proofs.Attaching.{script_steps}

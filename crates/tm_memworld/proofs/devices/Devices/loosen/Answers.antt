@@ -1,9 +1,9 @@
-use Rattle.std.proofs.Common.{◌≡◌, ◌+◌, ◌≤◌, ◌++◌, ◌∷◌, [], ◌∙◌, ℕ, List, length, get_or, set, sym, ap, subst, rules, arith}
+use Rattle.std.proofs.Common.{◌≡◌, ◌+◌, ◌≤◌, ◌++◌, ◌∷◌, [], ◌∙◌, length, set, sym, ap, subst, rules, arith}
 use Rattle.std.proofs.Math.ListN.{length-append}
 use Rattle.tm_memworld.specs.declared.change.Change.TheVariants.{Loosened}
 use Rattle.tm_memworld.specs.Sites.{AreBy}
 use Rattle.tm_world.specs.Disk.{Disk}
-use Rattle.tm_memworld.specs.Site.{SiteView, disk_of, zero_block}
+use Rattle.tm_memworld.specs.Site.{SiteView, disk_of}
 use Rattle.tm_memworld.specs.Devices.{contents_of}
 use Rattle.tm_memworld.proofs.Going.{no_block, by_timed, count-loosened, loosen_steps}
 use Rattle.tm_memworld.proofs.AtSide.{first-at, site-at, block-at, by-at, firsts, smalls, bys, rooms}

@@ -1,4 +1,4 @@
-use Rattle.std.proofs.Common.{◌≡◌, ◌≤◌, ◌∙◌, Some, sym, ap, arith}
+use Rattle.std.proofs.Common.{◌∙◌, Some, sym, ap, arith}
 use Rattle.tm_world.specs.Disk.{Disk}
 use Rattle.tm_world.specs.Outside.{put_at}
 use Rattle.tm_memworld.specs.Site.{SiteView, disk_of}

@@ -1,5 +1,4 @@
-use Rattle.std.proofs.Common.{◌≡◌, ◌∙◌, ◌++◌, ◌∷◌, [], ◌≤◌, List, length, set, sym, ap, subst, rules, arith}
-use Rattle.tm_memworld.specs.Site.{SiteView, IsBy}
+use Rattle.std.proofs.Common.{◌≡◌, ◌∙◌, ◌++◌, ◌∷◌, [], length, sym, subst, rules, arith}
 use Rattle.tm_memworld.specs.Sites.{path_at, IsFirst, IsNowhere, AreSmall, AreBy}
 use Rattle.tm_memworld.specs.Devices.{contents_of}
 use Rattle.tm_memworld.proofs.Views.{first-set, small-set, by-set, by_later, first-push, small-push, by-push}

@@ -1,4 +1,4 @@
-use Rattle.std.proofs.Common.{◌≡◌, ◌∙◌, rules}
+use Rattle.std.proofs.Common.{rules}
 use Rattle.tm_memworld.specs.Devices.{contents_of}
 use Rattle.tm_memworld.proofs.Going.{say_steps}
 use Rattle.tm_memworld.proofs.devices.Devices.say.Goals as goal

@@ -1,4 +1,4 @@
-use Rattle.std.proofs.Common.{◌≡◌, ◌∙◌, Some, sym, ap, subst}
+use Rattle.std.proofs.Common.{◌≡◌, ◌∙◌, sym, ap, subst}
 use Rattle.std.specs.Option.{is_some}
 use Rattle.tm_world.specs.Disk.{Disk}
 use Rattle.tm_memworld.specs.Sites.{path_at, IsFirst, IsNowhere}

@@ -1,7 +1,6 @@
-use Rattle.std.proofs.Common.{◌≡◌, ◌∙◌, List, [], length, drop, sym, ap, subst, rules, arith}
+use Rattle.std.proofs.Common.{◌≡◌, ◌∙◌, length, drop, sym, ap, subst, arith}
 use Rattle.std.proofs.lemmas.List.{with_items_is}
 use Rattle.std.specs.Vec.{with_items}
-use Rattle.tm_memworld.specs.Site.{SiteView}
 use Rattle.tm_memworld.specs.Sites.{IsFirst, AreSmall, AreBy, AreTorn, room_at}
 use Rattle.tm_world.specs.Log.{now}
 use Rattle.tm_memworld.specs.Change.{log_in}

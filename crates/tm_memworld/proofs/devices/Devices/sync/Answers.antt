@@ -1,15 +1,15 @@
-use Rattle.std.proofs.Common.{◌≡◌, ◌+◌, ◌≤◌, ◌++◌, ◌∷◌, [], ◌∙◌, ℕ, List, length, get_or, set, sym, ap, subst, rules, arith}
+use Rattle.std.proofs.Common.{◌≡◌, ◌+◌, ◌≤◌, ◌++◌, ◌∷◌, [], ◌∙◌, length, set, sym, ap, subst, rules, arith}
 use Rattle.std.proofs.Math.ListN.{length-append}
 use Rattle.tm_memworld.specs.declared.change.Change.TheVariants.{Synced}
 use Rattle.tm_memworld.specs.Sites.{AreBy}
 use Rattle.tm_world.specs.Disk.{Disk}
 use Rattle.tm_world.proofs.Disks.{count_synced}
-use Rattle.tm_memworld.specs.Site.{SiteView, disk_of, zero_block}
+use Rattle.tm_memworld.specs.Site.{SiteView, disk_of}
 use Rattle.tm_world.specs.Log.{Steps}
 use Rattle.tm_memworld.specs.Devices.{contents_of, log_of, outside}
 use Rattle.tm_memworld.proofs.Views.{by_later}
 use Rattle.tm_memworld.proofs.Going.{none_there, sync_nothing, by_settled, sync_steps}
-use Rattle.tm_memworld.proofs.AtSide.{first-at, site-at, block-at, by-at, firsts, smalls, bys, rooms}
+use Rattle.tm_memworld.proofs.AtSide.{first-at, site-at, by-at, firsts, smalls, bys, rooms}
 use Rattle.tm_memworld.proofs.devices.Devices.sync.Goals as goal
 
 pub settle-before-requires : goal.settle-before-requires

@@ -1,4 +1,4 @@
-use Rattle.std.proofs.Common.{◌≡◌, ◌+◌, ◌≤◌, ◌++◌, ◌∷◌, [], ◌∙◌, ℕ, List, length, get_or, set, sym, ap, subst, rules, arith}
+use Rattle.std.proofs.Common.{◌≡◌, ◌+◌, ◌≤◌, ◌++◌, ◌∷◌, [], ◌∙◌, length, get_or, set, sym, ap, subst, rules, arith}
 use Rattle.std.proofs.Math.ListN.{length-set, length-append}
 use Rattle.tm_memworld.specs.declared.change.Change.TheVariants.{Wrote}
 use Rattle.tm_memworld.specs.Sites.{AreBy}

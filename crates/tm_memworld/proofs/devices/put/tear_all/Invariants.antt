@@ -1,4 +1,4 @@
-use Rattle.std.proofs.Common.{◌≡◌, ℕ, ◌<◌, ◌≤◌, length}
+use Rattle.std.proofs.Common.{◌≡◌, ℕ, ◌<◌, ◌≤◌}
 use Rattle.tm_memworld.specs.Sites.{site_at, IsTorn}
 use Rattle.tm_memworld.proofs.devices.put.tear_all.Given as goal
 

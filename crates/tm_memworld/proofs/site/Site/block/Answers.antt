@@ -1,6 +1,6 @@
-use Rattle.std.proofs.Common.{◌≡◌, ◌<◌, ◌∙◌, length, get_or, sym, ap, subst, arith}
+use Rattle.std.proofs.Common.{◌<◌, ◌∙◌, get_or, sym, ap, subst, arith}
 use Rattle.std.proofs.lemmas.List.{get_or_read}
-use Rattle.tm_memworld.specs.Site.{SiteView, disk_in, disk_of, count_at, zero_block}
+use Rattle.tm_memworld.specs.Site.{SiteView, disk_in, count_at, zero_block}
 use Rattle.tm_memworld.proofs.Sites.{within, bytes-disk_in}
 use Rattle.tm_memworld.proofs.site.Site.block.Goals as goal
 

@@ -1,4 +1,4 @@
-use Rattle.std.proofs.Common.{◌≡◌, ◌∙◌, Option, Some, None, ap, subst}
+use Rattle.std.proofs.Common.{◌≡◌, ◌∙◌, None, ap, subst}
 use Rattle.tm_memworld.specs.Site.{SiteView, IsWhole}
 use Rattle.tm_memworld.proofs.Sites.{disk_in-open}
 use Rattle.tm_memworld.proofs.site.Site.open.Goals as goal

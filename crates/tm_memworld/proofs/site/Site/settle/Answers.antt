@@ -1,4 +1,4 @@
-use Rattle.std.proofs.Common.{◌≡◌, ◌≤◌, ◌∙◌, ℕ, sym, ap, subst}
+use Rattle.std.proofs.Common.{◌∙◌, sym, ap, subst}
 use Rattle.tm_world.specs.Disk.{synced}
 use Rattle.tm_memworld.specs.Site.{SiteView, disk_of, IsBy}
 use Rattle.tm_memworld.proofs.Sites.{disk_in-settle}
