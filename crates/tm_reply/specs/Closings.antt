@@ -8,35 +8,43 @@ use Rattle.tm_base.specs.declared.refused.Refused.TheVariants as refused
 use Rattle.tm_reply.specs.Layout.{spaced, line_of}
 
 -- a refusal's name, and the values that it shows
-unfoldable pub refusal_text : Refused → List ℕ
-refusal_text refused.NoVolume = codes "NoVolume"
-refusal_text refused.NoStore = codes "NoStore"
-refusal_text refused.Already = codes "Already"
-refusal_text refused.Small = codes "Small"
-refusal_text refused.NotFound = codes "NotFound"
-refusal_text refused.Exists = codes "Exists"
-refusal_text refused.NotFolder = codes "NotFolder"
-refusal_text refused.IsFolder = codes "IsFolder"
-refusal_text refused.NotEmpty = codes "NotEmpty"
-refusal_text refused.IntoSelf = codes "IntoSelf"
-refusal_text refused.TooDeep = codes "TooDeep"
-refusal_text (refused.TooLong bytes) = spaced (codes "TooLong" ∷ decimal bytes ∷ [])
-refusal_text (refused.TooMany count) = spaced (codes "TooMany" ∷ decimal count ∷ [])
-refusal_text refused.RootItem = codes "RootItem"
-refusal_text (refused.Full need free) = spaced (codes "Full" ∷ decimal need ∷ decimal free ∷ [])
-refusal_text (refused.Busy date) = spaced (codes "Busy" ∷ moment_text date ∷ [])
-refusal_text refused.NoBackup = codes "NoBackup"
-refusal_text (refused.DateNotLater date) = spaced (codes "DateNotLater" ∷ moment_text date ∷ [])
-refusal_text refused.NoMoment = codes "NoMoment"
-refusal_text (refused.ClockBack date) = spaced (codes "ClockBack" ∷ moment_text date ∷ [])
-refusal_text refused.NoSnapshot = codes "NoSnapshot"
-refusal_text refused.NotExcluded = codes "NotExcluded"
-refusal_text refused.NoAttribute = codes "NoAttribute"
-refusal_text refused.IdsSpent = codes "IdsSpent"
-refusal_text refused.IdTaken = codes "IdTaken"
-refusal_text refused.NotBuilt = codes "NotBuilt"
+abbrev pub refusal_words : Refused → List (List ℕ)
+refusal_words refused.NoVolume = codes "NoVolume" ∷ []
+refusal_words refused.NoStore = codes "NoStore" ∷ []
+refusal_words refused.Already = codes "Already" ∷ []
+refusal_words refused.Small = codes "Small" ∷ []
+refusal_words refused.NotFound = codes "NotFound" ∷ []
+refusal_words refused.Exists = codes "Exists" ∷ []
+refusal_words refused.NotFolder = codes "NotFolder" ∷ []
+refusal_words refused.IsFolder = codes "IsFolder" ∷ []
+refusal_words refused.NotEmpty = codes "NotEmpty" ∷ []
+refusal_words refused.IntoSelf = codes "IntoSelf" ∷ []
+refusal_words refused.TooDeep = codes "TooDeep" ∷ []
+refusal_words (refused.TooLong bytes) = codes "TooLong" ∷ decimal bytes ∷ []
+refusal_words (refused.TooMany count) = codes "TooMany" ∷ decimal count ∷ []
+refusal_words refused.RootItem = codes "RootItem" ∷ []
+refusal_words (refused.Full need free) = codes "Full" ∷ decimal need ∷ decimal free ∷ []
+refusal_words (refused.Busy date) = codes "Busy" ∷ moment_text date ∷ []
+refusal_words refused.NoBackup = codes "NoBackup" ∷ []
+refusal_words (refused.DateNotLater date) = codes "DateNotLater" ∷ moment_text date ∷ []
+refusal_words refused.NoMoment = codes "NoMoment" ∷ []
+refusal_words (refused.ClockBack date) = codes "ClockBack" ∷ moment_text date ∷ []
+refusal_words refused.NoSnapshot = codes "NoSnapshot" ∷ []
+refusal_words refused.NotExcluded = codes "NotExcluded" ∷ []
+refusal_words refused.NoAttribute = codes "NoAttribute" ∷ []
+refusal_words refused.IdsSpent = codes "IdsSpent" ∷ []
+refusal_words refused.IdTaken = codes "IdTaken" ∷ []
+refusal_words refused.NotBuilt = codes "NotBuilt" ∷ []
 
--- `ok`, or `refused NUMBER TEXT`, with its end
+-- these words with a blank between them
+unfoldable pub refusal_text : Refused → List ℕ
+refusal_text r = spaced (refusal_words r)
+
+-- the words of the closing line: `ok`, or `refused NUMBER TEXT`
+abbrev pub closing_words : Option Refused → List (List ℕ)
+closing_words None = codes "ok" ∷ []
+closing_words (Some r) = codes "refused" ∷ decimal (number_of r) ∷ refusal_text r ∷ []
+
+-- the text of the closing line, with its end
 unfoldable pub closing_text : Option Refused → List ℕ
-closing_text None = line_of (codes "ok" ∷ [])
-closing_text (Some r) = line_of (codes "refused" ∷ decimal (number_of r) ∷ refusal_text r ∷ [])
+closing_text refused = line_of (closing_words refused)

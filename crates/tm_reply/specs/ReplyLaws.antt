@@ -1,5 +1,5 @@
 -- What the texts of replies keep.
-use Rattle.std.specs.Prelude.{◌≡◌, ℕ, ◌<◌, ◌==◌, ◌&&◌, ◌||◌, not, Bool, true, List, [], ◌∷◌, ◌++◌, All, nat_eq, codes}
+use Rattle.std.specs.Prelude.{◌≡◌, ℕ, ◌<◌, ◌==◌, ◌&&◌, ◌||◌, not, Bool, true, List, [], ◌∷◌, ◌++◌, length, All, nat_eq, codes}
 use Rattle.std.specs.List.{list_all, starts_with}
 use Rattle.std.specs.Str.{bytes_eq}
 use Rattle.percent_encoding.specs.Percent.{percent_decode}
@@ -41,6 +41,10 @@ EachTextClosesOnce = (reply : Reply) → ClosesOnce (reply_text reply)
 abbrev pub TextsSplitInOneWay : Type 0
 TextsSplitInOneWay =
     (r s : Reply) (x y : List ℕ) → reply_text r ++ x ≡ reply_text s ++ y → (reply_text r ≡ reply_text s) × (x ≡ y)
+
+-- a reply's text is not empty
+abbrev pub ReplyIsSome : Type 0
+ReplyIsSome = (reply : Reply) → 0 < length (reply_text reply)
 
 -- a printed word decodes to its bytes
 abbrev pub WordsDecode : Type 0

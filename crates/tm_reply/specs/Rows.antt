@@ -40,38 +40,41 @@ snapshot_path machine date = machine_path machine ++ 0x2F ∷ moment_text date
 unfoldable pub in_progress_name : ℕ → List ℕ
 in_progress_name date = moment_text date ++ codes ".inProgress"
 
+-- the words of a data line; attributes count as one
+abbrev pub row_words : ReplyRow → List (List ℕ)
+row_words (row.Folder a name) = codes "folder" ∷ attributes_text a ∷ printed_name name ∷ []
+row_words (row.File a bytes stamp name) =
+    codes "file" ∷ attributes_text a ∷ decimal bytes ∷ decimal stamp ∷ printed_name name ∷ []
+row_words (row.Link a stamp name target) =
+    codes "link" ∷ attributes_text a ∷ decimal stamp ∷ printed_name name ∷ printed_word target ∷ []
+row_words (row.Extra name []) = codes "extra" ∷ printed_word name ∷ []
+row_words (row.Extra name (b ∷ value)) = codes "extra" ∷ printed_word name ∷ printed_word (b ∷ value) ∷ []
+row_words (row.Contents []) = codes "bytes" ∷ codes "0" ∷ []
+row_words (row.Contents (b ∷ bytes)) = codes "bytes" ∷ decimal (length (b ∷ bytes)) ∷ printed_word (b ∷ bytes) ∷ []
+row_words (row.Target target) = codes "target" ∷ printed_word target ∷ []
+row_words (row.Generated files folders bytes) =
+    codes "gen" ∷ codes "files" ∷ decimal files ∷ codes "folders" ∷ decimal folders ∷ codes "bytes" ∷ decimal bytes ∷ []
+row_words (row.Running left) = codes "running" ∷ decimal left ∷ []
+row_words (row.Finished date walked) = codes "finished" ∷ moment_text date ∷ codes "walked" ∷ decimal walked ∷ []
+row_words (row.SnapshotPath machine date) = snapshot_path machine date ∷ []
+row_words (row.MachineDirectory machine) = machine_path machine ∷ []
+row_words (row.Excluded path) = codes "[Excluded]" ∷ printed_path path ∷ []
+row_words (row.Included path) = codes "[Included]" ∷ printed_path path ∷ []
+row_words (row.Unique bytes) = codes "unique" ∷ decimal bytes ∷ []
+row_words (row.Removed machine date) = codes "removed" ∷ snapshot_path machine date ∷ []
+row_words (row.Event id flags path) = codes "event" ∷ decimal id ∷ decimal flags ∷ printed_path path ∷ []
+row_words (row.Uuid id) = codes "uuid" ∷ printed_id id ∷ []
+row_words (row.Machine name) = codes "machine" ∷ printed_word name ∷ []
+row_words (row.Snapshot date) = codes "snapshot" ∷ moment_text date ∷ []
+row_words (row.InProgress date) = codes "running" ∷ in_progress_name date ∷ []
+row_words (row.Latest date) = codes "latest" ∷ moment_text date ∷ []
+row_words (row.Volume name id) = codes "volume" ∷ printed_word name ∷ printed_id id ∷ []
+row_words (row.Stat kind label links) =
+    codes "stat" ∷ kind_word kind ∷ codes "label" ∷ decimal label ∷ codes "links" ∷ decimal links ∷ []
+row_words (row.Df blocks free nodes stored snapshots) =
+    codes "df" ∷ codes "blocks" ∷ decimal blocks ∷ codes "free" ∷ decimal free ∷ codes "nodes" ∷ decimal nodes
+    ∷ codes "stored" ∷ decimal stored ∷ codes "snapshots" ∷ decimal snapshots ∷ []
+
 -- the text of a data line, with its end
-abbrev pub row_text : ReplyRow → List ℕ
-row_text (row.Folder a name) = line_of (codes "folder" ∷ attributes_text a ∷ printed_name name ∷ [])
-row_text (row.File a bytes stamp name) =
-    line_of (codes "file" ∷ attributes_text a ∷ decimal bytes ∷ decimal stamp ∷ printed_name name ∷ [])
-row_text (row.Link a stamp name target) =
-    line_of (codes "link" ∷ attributes_text a ∷ decimal stamp ∷ printed_name name ∷ printed_word target ∷ [])
-row_text (row.Extra name []) = line_of (codes "extra" ∷ printed_word name ∷ [])
-row_text (row.Extra name (b ∷ value)) = line_of (codes "extra" ∷ printed_word name ∷ printed_word (b ∷ value) ∷ [])
-row_text (row.Contents []) = line_of (codes "bytes" ∷ codes "0" ∷ [])
-row_text (row.Contents (b ∷ bytes)) =
-    line_of (codes "bytes" ∷ decimal (length (b ∷ bytes)) ∷ printed_word (b ∷ bytes) ∷ [])
-row_text (row.Target target) = line_of (codes "target" ∷ printed_word target ∷ [])
-row_text (row.Generated files folders bytes) =
-    line_of (codes "gen" ∷ codes "files" ∷ decimal files ∷ codes "folders" ∷ decimal folders ∷ codes "bytes" ∷ decimal bytes ∷ [])
-row_text (row.Running left) = line_of (codes "running" ∷ decimal left ∷ [])
-row_text (row.Finished date walked) = line_of (codes "finished" ∷ moment_text date ∷ codes "walked" ∷ decimal walked ∷ [])
-row_text (row.SnapshotPath machine date) = line_of (snapshot_path machine date ∷ [])
-row_text (row.MachineDirectory machine) = line_of (machine_path machine ∷ [])
-row_text (row.Excluded path) = line_of (codes "[Excluded]" ∷ printed_path path ∷ [])
-row_text (row.Included path) = line_of (codes "[Included]" ∷ printed_path path ∷ [])
-row_text (row.Unique bytes) = line_of (codes "unique" ∷ decimal bytes ∷ [])
-row_text (row.Removed machine date) = line_of (codes "removed" ∷ snapshot_path machine date ∷ [])
-row_text (row.Event id flags path) = line_of (codes "event" ∷ decimal id ∷ decimal flags ∷ printed_path path ∷ [])
-row_text (row.Uuid id) = line_of (codes "uuid" ∷ printed_id id ∷ [])
-row_text (row.Machine name) = line_of (codes "machine" ∷ printed_word name ∷ [])
-row_text (row.Snapshot date) = line_of (codes "snapshot" ∷ moment_text date ∷ [])
-row_text (row.InProgress date) = line_of (codes "running" ∷ in_progress_name date ∷ [])
-row_text (row.Latest date) = line_of (codes "latest" ∷ moment_text date ∷ [])
-row_text (row.Volume name id) = line_of (codes "volume" ∷ printed_word name ∷ printed_id id ∷ [])
-row_text (row.Stat kind label links) =
-    line_of (codes "stat" ∷ kind_word kind ∷ codes "label" ∷ decimal label ∷ codes "links" ∷ decimal links ∷ [])
-row_text (row.Df blocks free nodes stored snapshots) =
-    line_of (codes "df" ∷ codes "blocks" ∷ decimal blocks ∷ codes "free" ∷ decimal free ∷ codes "nodes" ∷ decimal nodes
-    ∷ codes "stored" ∷ decimal stored ∷ codes "snapshots" ∷ decimal snapshots ∷ [])
+unfoldable pub row_text : ReplyRow → List ℕ
+row_text row = line_of (row_words row)

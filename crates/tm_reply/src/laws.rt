@@ -1,5 +1,5 @@
 //! Laws of the texts of replies.
-ghost use Rattle.tm_reply.specs.ReplyLaws.{EachTextClosesOnce, TextsSplitInOneWay, WordsDecode};
+ghost use Rattle.tm_reply.specs.ReplyLaws.{EachTextClosesOnce, TextsSplitInOneWay, ReplyIsSome, WordsDecode};
 
 /// A reply's text is whole lines, of which the last is `ok` or begins with the word `refused`, and
 /// no other does.
@@ -11,6 +11,11 @@ pub fn each_text_closes_once()
 /// could be mistaken for it.
 pub fn texts_split_in_one_way()
     ensures { TextsSplitInOneWay }
+{}
+
+/// A reply's text is not empty.
+pub fn reply_is_some()
+    ensures { ReplyIsSome }
 {}
 
 /// A printed word decodes to the bytes that it stands for.

@@ -7,7 +7,7 @@ mod reply;
 mod row;
 mod words;
 
-pub use laws::{each_text_closes_once, texts_split_in_one_way, words_decode};
+pub use laws::{each_text_closes_once, reply_is_some, texts_split_in_one_way, words_decode};
 pub use reply::{Reply, ReplyRows, print};
 pub use row::{Attributes, Kind, ListedName, ReplyRow};
 

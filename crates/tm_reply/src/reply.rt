@@ -64,6 +64,7 @@ pub struct Reply {
 
 /// The text of a reply: its data lines and a closing line, each with its end; only want of memory
 /// can refuse it (`docs/SCRIPT.md`, "Replies").
+#[tactic(auto, unfolding(crate::specs::Replies::reply_text))]
 pub fn print(alloc: Global, reply: &Reply) -> Result<Bytes, AllocError>
     ensures { IfOk result (λ text. text ≡ reply_text reply.now) }
 {

@@ -260,7 +260,8 @@ fn print_in_progress(alloc: Global, date: Moment) -> Result<String, AllocError>
 impl ReplyRow {
     ghost use Rattle.tm_reply.specs.Rows.{row_text};
 
-    /// The text of the line, with its end.
+    /// The text of the line, with its end; only want of memory can refuse it.
+    #[tactic(auto, unfolding(crate::specs::Rows::row_text))]
     pub fn print(&self, alloc: Global) -> Result<String, AllocError>
         ensures { IfOk result (λ text. string_bytes text ≡ row_text self.now) }
     {
@@ -373,6 +374,7 @@ impl ReplyRow {
 }
 
 // `extra NAME VALUE`, or `extra NAME` where the value is empty.
+#[tactic(auto, unfolding(crate::specs::Rows::row_text))]
 fn print_extra(alloc: Global, name: &Name, value: &Bytes) -> Result<String, AllocError>
     ensures { IfOk result (λ text. string_bytes text ≡ row_text (ReplyRow.Extra name.now value.now)) }
 {
@@ -385,6 +387,7 @@ fn print_extra(alloc: Global, name: &Name, value: &Bytes) -> Result<String, Allo
 }
 
 // `bytes LENGTH WORD`, or `bytes 0` where there is none.
+#[tactic(auto, unfolding(crate::specs::Rows::row_text))]
 fn print_contents(alloc: Global, bytes: &Bytes) -> Result<String, AllocError>
     ensures { IfOk result (λ text. string_bytes text ≡ row_text (ReplyRow.Contents bytes.now)) }
 {
@@ -397,6 +400,7 @@ fn print_contents(alloc: Global, bytes: &Bytes) -> Result<String, AllocError>
 }
 
 // `df blocks T free F nodes N stored S snapshots C`.
+#[tactic(auto, unfolding(crate::specs::Rows::row_text))]
 fn print_df(
     alloc: Global,
     blocks: u64,
