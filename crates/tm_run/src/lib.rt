@@ -2,11 +2,13 @@
 #![tactic(auto)]
 
 mod command;
+mod laws;
 mod lines;
 mod output;
 mod script;
 mod status;
 mod top;
 
+pub use laws::one_outcome;
 pub use status::Status;
 pub use top::run;

@@ -13,6 +13,7 @@ ghost use Rattle.tm_run.specs.Ends.{IsWhole, SaysAll, SaysPrefix, GaveOutcome};
 ghost use Rattle.tm_run.specs.declared.status.Status.{Status};
 
 use crate::command::read_words;
+use crate::laws::one_outcome;
 use crate::lines::{RunEnd, run_lines};
 use crate::output::say;
 use crate::script::{ScriptError, read_script};
@@ -49,6 +50,7 @@ pub fn run<W: World>(alloc: Global, words: &[String], world: &mut W) -> Status
     ensures never_less { NeverLess (W.faults world.old) (W.faults world.new) }
     ensures blocks { W.blocks world.new ≡ W.blocks world.old }
 {
+    one_outcome();
     let Some(command) = read_words(words) else {
         return say_last(world, USAGE, Status::Usage);
     };
@@ -139,10 +141,24 @@ fn run_script<W: World>(alloc: Global, world: &mut W, lines: &Lines) -> Status
         Ok(session) => session,
         Err(_) => return Status::Memory,
     };
-    match run_lines(alloc, &mut session, world, lines.as_slice()) {
-        Ok(false) => Status::Done,
-        Ok(true) => Status::DoneRefused,
-        Err(RunEnd::OutFault) => Status::OutFault,
-        Err(RunEnd::Memory) => Status::Memory,
+    let refused = match run_lines(alloc, &mut session, world, lines.as_slice()) {
+        Ok(refused) => refused,
+        Err(RunEnd::OutFault) => return Status::OutFault,
+        Err(RunEnd::Memory) => return Status::Memory,
+    };
+    match session.close(world) {
+        Ok(_) => done(refused),
+        Err(_) => Status::Memory,
+    }
+}
+
+// The status of a script that was run to its end.
+fn done(refused: bool) -> Status
+    ensures { result ≡ done_status refused }
+{
+    if refused {
+        Status::DoneRefused
+    } else {
+        Status::Done
     }
 }
