@@ -1,6 +1,7 @@
 //! A world in memory.
-ghost use Rattle.std.specs.Prelude.{◌≡◌, ◌≢◌, ◌<◌, ◌≤◌, ◌↔◌, ◌++◌, ◌||◌, [], ℕ, length, min, take, drop, Some, IsTrue, IsErr, IsNone, IfOk, IfSome, IfNone, OnOk, OnErr, OnSome};
+ghost use Rattle.std.specs.Prelude.{◌≡◌, ◌≢◌, ◌<◌, ◌≤◌, ◌↔◌, ◌++◌, ◌||◌, [], ℕ, length, min, take, drop, Some, IsTrue, IsErr, IsSome, IsNone, IfOk, IfSome, IfNone, OnOk, OnErr, OnSome};
 ghost use Rattle.std.specs.Option.{ForSome};
+ghost use Rattle.tm_world.specs.declared.world.Part.{Part};
 ghost use Rattle.tm_world.specs.Disk.{IsLeft};
 ghost use Rattle.tm_world.specs.Outside.{disk, took, spoke, attached, attached_count, part_of};
 ghost use Rattle.tm_world.specs.Log.{now, Steps, Says, Writes};
@@ -209,6 +210,7 @@ impl World for MemWorld {
         ensures ok { OnOk result (Steps (clock self.old) (clock self.new) (attached part path.now create (now (clock self.old)))) }
         ensures err { OnErr result (Steps (clock self.old) (clock self.new) (now (clock self.old))) }
         ensures count { IfOk result (λ n. n ≡ attached_count part (now (clock self.new))) }
+        ensures script { part ≡ Part.Script → OnOk result (IsSome ((now (clock self.old)).scripts path.now)) }
         ensures most { IfOk result (λ n. n ≤ 262144) }
         ensures blocks { (side : Side) → part_of side ≡ part → IfOk result (λ n. blocks_of self.new side ≡ n) }
         ensures other { (side : Side) → part_of side ≢ part → blocks_of self.new side ≡ blocks_of self.old side }

@@ -1,0 +1,9 @@
+//! Runs of whole scripts over a world in memory, compared with replies that were worked out by hand.
+#![tactic(auto)]
+
+#[cfg(test)]
+mod refusals;
+#[cfg(test)]
+mod scripts;
+#[cfg(test)]
+mod tests;
