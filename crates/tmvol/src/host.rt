@@ -1,5 +1,5 @@
 //! What is outside: the script's file and standard output.
-ghost use Rattle.std.specs.Prelude.{◌≡◌, ◌<◌, ◌≤◌, IfOk, OnOk, OnErr, length};
+ghost use Rattle.std.specs.Prelude.{◌≡◌, ◌<◌, ◌≤◌, IsSome, IfOk, OnOk, OnErr, length};
 ghost use Rattle.std.specs.Io.KnownBytes.{IsAtEnd};
 ghost use Rattle.std.specs.Option.{ForSome};
 ghost use Rattle.tm_world.specs.declared.world.Part.{Part};
@@ -59,6 +59,7 @@ impl<'a, R: Files + Print> HostWorld<'a, R> {
 
     // Opens the script's file.
     fn open_script(&mut self, path: &str) -> Result<(), Failed>
+        ensures opened { OnOk result (IsSome self.new.script) }
         ensures ok { OnOk result ((part : Part) → count_of self.new.faults part ≡ count_of self.old.faults part) }
         ensures err { OnErr result (CountsFault Part.Script (count_of self.old.faults) (count_of self.new.faults)) }
         ensures never_less { NeverLess (count_of self.old.faults) (count_of self.new.faults) }
