@@ -1,6 +1,5 @@
 //! What no clause says: that the calls succeed, and rows worked out by hand.
 use crate::{LabelledTree, Store, Tree, Volume};
-use std::process::Abort;
 use std::test::Fail;
 use tm_base::{LineFault, Moment, Name, Path, Refused};
 use tm_tree::{Attrs, Change, Item, Way};
@@ -22,90 +21,128 @@ fn moment(seconds: u64) -> Result<Moment, Fail> {
     Ok(Moment::from_seconds(seconds).ok_or("a moment")?)
 }
 
+// A root with the folder `a`, in which the file `f` stands.
+fn tree(rt: &HostRuntime) -> Result<Tree, Fail> {
+    let alloc = rt.alloc();
+    let mut tree = Tree::new(alloc, Item::new_folder(alloc, moment(1)?))?;
+    tree.put(path(rt, &["a"])?, Item::new_folder(alloc, moment(2)?))?;
+    let file = Item::new_file(alloc, moment(3)?, 4, bytes(rt, "hi")?);
+    tree.put(path(rt, &["a", "f"])?, file)?;
+    Ok(tree)
+}
+
+#[test]
+fn items_are_counted(rt: HostRuntime) -> Result<(), Fail> {
+    let tree = tree(&rt)?;
+    assert_eq!(rt; tree.len(), 3);
+    assert_eq!(rt; tree.folders(), 2);
+    Ok(())
+}
+
+#[test]
+fn items_are_found(rt: HostRuntime) -> Result<(), Fail> {
+    let tree = tree(&rt)?;
+    let a = path(&rt, &["a"])?;
+    assert!(rt; tree.has_folder(&a));
+    assert!(rt; tree.get(&a).is_some());
+    assert_eq!(rt; tree.children(&a), 1);
+    assert_eq!(rt; tree.way(&a)?, Way::AtFolder);
+    assert!(rt; tree.find(&a)?.is_folder());
+    Ok(())
+}
+
+#[test]
+fn folders_are_listed(rt: HostRuntime) -> Result<(), Fail> {
+    let tree = tree(&rt)?;
+    let a = path(&rt, &["a"])?;
+    assert!(rt; tree.list(&a)?.is_some());
+    assert_eq!(rt; tree.entries(&a)?.len(), 1);
+    Ok(())
+}
+
+#[test]
+fn items_are_changed(rt: HostRuntime) -> Result<(), Fail> {
+    let mut tree = tree(&rt)?;
+    let a = path(&rt, &["a"])?;
+    tree.change(&a, Attrs::new(rt.alloc(), 0o700, moment(5)?), 9);
+    tree.touch(&a, moment(6)?);
+    let attrs = tree.find(&a)?.attrs();
+    assert_eq!(rt; attrs.mode, 0o700);
+    assert_eq!(rt; attrs.modified, moment(6)?);
+    Ok(())
+}
+
+#[test]
+fn items_are_moved(rt: HostRuntime) -> Result<(), Fail> {
+    let mut tree = tree(&rt)?;
+    let (a, b) = (path(&rt, &["a"])?, path(&rt, &["b"])?);
+    if !tree.is_too_deep(&a, &b) {
+        tree.move_all(&a, &b)?;
+    }
+    assert!(rt; tree.get(&a).is_none());
+    tree.remove(&b);
+    assert_eq!(rt; tree.len(), 2);
+    Ok(())
+}
+
 fn volume(rt: &HostRuntime) -> Result<Volume, Fail> {
     let name = Name::read(rt.alloc(), b"Home")?;
     Ok(Volume::blank(rt.alloc(), &name, 7, 100, moment(10)?)?)
 }
 
-#[test]
-fn trees_are_changed(rt: HostRuntime) -> Result<(), Fail> {
-    let alloc = rt.alloc();
-    let (root, a, b) = (path(&rt, &[])?, path(&rt, &["a"])?, path(&rt, &["b"])?);
-    let in_a = path(&rt, &["a", "f"])?;
-    let mut tree = Tree::new(alloc, Item::new_folder(alloc, moment(1)?))?;
-    tree.put(a.clone()?, Item::new_folder(alloc, moment(2)?))?;
-    let file = Item::new_file(alloc, moment(3)?, 4, bytes(&rt, "hi")?);
-    tree.put(in_a.clone()?, file)?;
-    assert_eq!(rt; tree.len(), 3);
-    assert_eq!(rt; tree.folders(), 2);
-    assert_eq!(rt; tree.children(&root), 1);
-    assert_eq!(rt; tree.way(&in_a)?, Way::AtFile);
-    assert!(rt; tree.has_folder(&a));
-    assert!(rt; !tree.is_too_deep(&a, &b));
-    tree.move_all(&a, &b)?;
-    assert!(rt; tree.get(&in_a).is_none());
-    let moved = path(&rt, &["b", "f"])?;
-    tree.change(&moved, Attrs::new(alloc, 0o600, moment(5)?), 9);
-    tree.touch(&b, moment(6)?);
-    assert_eq!(rt; tree.find(&moved)?.attrs().mode, 0o600);
-    assert_eq!(rt; tree.find(&b)?.attrs().modified, moment(6)?);
-    tree.remove(&moved);
-    assert_eq!(rt; tree.len(), 2);
-    Ok(())
-}
-
-// Makes a change, after which this number is next: one has been drawn a stamp, and then one a touch.
-fn makes(rt: &impl Abort, volume: &mut Volume, change: Change, next: u64) -> Result<(), Fail> {
-    volume.change(&change, Some(moment(20)?))?;
-    assert_eq!(rt; volume.next(), next);
-    Ok(())
+// A line that fills a file in the root with the three bytes 250, 1 and 8.
+fn fill(rt: &HostRuntime, name: &str) -> Result<Change, Fail> {
+    Ok(Change::Fill {
+        path: path(rt, &[name])?,
+        length: 3,
+        seed: 250,
+    })
 }
 
 #[test]
 fn a_volume_is_changed(rt: HostRuntime) -> Result<(), Fail> {
     let mut volume = volume(&rt)?;
-    let path_a = path(&rt, &["a"])?;
-    makes(&rt, &mut volume, Change::Mkdir { path: path_a }, 3)?;
-    let fill = Change::Fill {
-        path: path(&rt, &["a", "f"])?,
-        length: 3,
-        seed: 250,
-    };
-    makes(&rt, &mut volume, fill, 5)?;
-    let mv = Change::Mv {
-        path: path(&rt, &["a"])?,
-        to: path(&rt, &["b"])?,
-    };
-    makes(&rt, &mut volume, mv, 8)?;
-    match volume.find(&path(&rt, &["b", "f"])?)? {
+    let touches = volume.change(&fill(&rt, "f")?, Some(moment(20)?))?;
+    // One number is drawn for the stamp, and then one for the touch.
+    assert_eq!(rt; touches.as_slice().len(), 1);
+    assert_eq!(rt; volume.next(), 3);
+    match volume.find(&path(&rt, &["f"])?)? {
         Item::File { stamp, bytes, .. } => {
-            assert_eq!(rt; *stamp, 3);
+            assert_eq!(rt; *stamp, 1);
             assert!(rt; bytes.as_slice() == [250, 1, 8].as_slice());
         }
         _ => return Err(Fail::from("a file")),
     }
-    let root = path(&rt, &[])?;
-    assert_eq!(rt;
-        volume.list(&root)?.ok_or("a folder")?.rows.as_slice().len(),
-        1
-    );
-    let again = volume.change(&Change::Mkdir { path: root }, Some(moment(20)?));
-    assert!(rt; matches!(again, Err(LineFault::Refused(Refused::Exists))));
+    Ok(())
+}
+
+#[test]
+fn a_line_is_refused(rt: HostRuntime) -> Result<(), Fail> {
+    let mut volume = volume(&rt)?;
+    let mkdir = Change::Mkdir {
+        path: path(&rt, &[])?,
+    };
+    match volume.change(&mkdir, Some(moment(20)?)) {
+        Err(LineFault::Refused(why)) => assert_eq!(rt; why, Refused::Exists),
+        _ => return Err(Fail::from("refused")),
+    }
     Ok(())
 }
 
 #[test]
 fn a_volume_is_seen(rt: HostRuntime) -> Result<(), Fail> {
-    let mut volume = volume(&rt)?;
-    let fix = Change::Fix {
-        path: path(&rt, &["a"])?,
-    };
-    makes(&rt, &mut volume, fix, 3)?;
-    let hidden = path(&rt, &["a"])?;
-    makes(&rt, &mut volume, Change::Mkdir { path: hidden }, 5)?;
+    let volume = volume(&rt)?;
+    let root = path(&rt, &[])?;
     assert_eq!(rt; volume.view()?.len(), 1);
-    assert_eq!(rt; volume.entries(&path(&rt, &[])?)?.len(), 1);
-    assert_eq!(rt; volume.fixed().len(), 1);
+    assert_eq!(rt; volume.entries(&root)?.len(), 0);
+    assert!(rt; volume.list(&root)?.is_some());
+    Ok(())
+}
+
+#[test]
+fn a_volume_has_a_head(rt: HostRuntime) -> Result<(), Fail> {
+    let volume = volume(&rt)?;
+    assert_eq!(rt; volume.fixed().len(), 0);
     assert!(rt; volume.name().as_bytes() == b"Home".as_slice());
     assert_eq!(rt; volume.id(), 7);
     assert_eq!(rt; volume.capacity(), 100);
@@ -113,61 +150,66 @@ fn a_volume_is_seen(rt: HostRuntime) -> Result<(), Fail> {
     Ok(())
 }
 
-fn file(path: Path) -> Change {
-    Change::Fill {
-        path,
-        length: 1,
-        seed: 0,
+fn machine(rt: &HostRuntime) -> Result<Name, Fail> {
+    Ok(Name::read(rt.alloc(), b"Mac")?)
+}
+
+// A store with two backups: the second has the file `g` besides.
+fn store(rt: &HostRuntime) -> Result<Store, Fail> {
+    let mut volume = volume(rt)?;
+    let mut store = Store::new(rt.alloc(), &machine(rt)?)?;
+    volume.change(&fill(rt, "f")?, Some(moment(30)?))?;
+    store.complete(&volume, moment(30)?)?;
+    volume.change(&fill(rt, "g")?, Some(moment(40)?))?;
+    if store.number() < 9 {
+        store.complete(&volume, moment(40)?)?;
     }
+    Ok(store)
 }
 
 #[test]
 fn backups_are_kept(rt: HostRuntime) -> Result<(), Fail> {
-    let mut volume = volume(&rt)?;
-    let (f, g) = (path(&rt, &["f"])?, path(&rt, &["g"])?);
-    let machine = Name::read(rt.alloc(), b"Mac")?;
-    let mut store = Store::new(rt.alloc(), &machine)?;
-    assert!(rt; LabelledTree::new(rt.alloc()).get(&f).is_none());
-    let (f_again, g_again) = (f.clone()?, g.clone()?);
-    makes(&rt, &mut volume, file(f_again), 3)?;
-    store.complete(&volume, moment(30)?)?;
-    makes(&rt, &mut volume, file(g_again), 5)?;
-    store.complete(&volume, moment(40)?)?;
+    let store = store(&rt)?;
     assert_eq!(rt; store.number(), 3);
-    assert!(rt; *store.machine() == machine);
+    assert!(rt; *store.machine() == machine(&rt)?);
     assert_eq!(rt; store.snapshots().len(), 2);
-    let first = store
-        .snapshot_at(&machine, Some(moment(30)?))
-        .ok_or("the first")?;
-    assert_eq!(rt; first.cursor(), 2);
-    assert!(rt; first.tree().get(&g).is_none());
-    let last = store
-        .snapshot_under(&machine, None, volume.name())
-        .ok_or("the last")?;
-    assert_eq!(rt; last.date(), moment(40)?);
-    assert!(rt; *last.volume() == *volume.name());
-    assert_eq!(rt; last.id(), 7);
-    assert_eq!(rt; last.generation(), 1);
-    assert!(rt; store.latest().is_some());
-    is_kept(&rt, last.tree(), &f, &g, &path(&rt, &[])?)
+    let first = store.snapshot_at(&machine(&rt)?, Some(moment(30)?));
+    assert_eq!(rt; first.ok_or("a snapshot")?.cursor(), 2);
+    Ok(())
 }
 
-// The file of the first backup keeps its label; the root has changed.
-fn is_kept(
-    rt: &impl Abort,
-    tree: &LabelledTree,
-    f: &Path,
-    g: &Path,
-    root: &Path,
-) -> Result<(), Fail> {
-    assert_eq!(rt; tree.get(f).ok_or("an item")?.label, 1);
-    assert_eq!(rt; tree.get(g).ok_or("an item")?.label, 2);
-    assert_eq!(rt; tree.get(root).ok_or("an item")?.label, 2);
-    assert!(rt; !tree.find(f)?.is_folder());
-    assert_eq!(rt; tree.entries(root)?.len(), 2);
-    assert_eq!(rt;
-        tree.list(&root)?.ok_or("a folder")?.rows.as_slice().len(),
-        2
-    );
+#[test]
+fn snapshots_are_found(rt: HostRuntime) -> Result<(), Fail> {
+    let store = store(&rt)?;
+    let last = store.latest().ok_or("a snapshot")?;
+    assert_eq!(rt; last.date(), moment(40)?);
+    assert_eq!(rt; last.id(), 7);
+    assert_eq!(rt; last.generation(), 1);
+    let found = store.snapshot_under(&machine(&rt)?, None, last.volume());
+    assert!(rt; found.is_some());
+    Ok(())
+}
+
+#[test]
+fn unchanged_files_keep_their_labels(rt: HostRuntime) -> Result<(), Fail> {
+    let store = store(&rt)?;
+    let tree = store.latest().ok_or("a snapshot")?.tree();
+    // The file of the first backup keeps its label; the root has changed.
+    for (words, label) in [(["f"].as_slice(), 1), (&["g"], 2), (&[], 2)] {
+        let labelled = tree.get(&path(&rt, words)?).ok_or("an item")?;
+        assert_eq!(rt; labelled.label, label);
+    }
+    Ok(())
+}
+
+#[test]
+fn snapshots_are_listed(rt: HostRuntime) -> Result<(), Fail> {
+    let store = store(&rt)?;
+    let tree = store.latest().ok_or("a snapshot")?.tree();
+    let root = path(&rt, &[])?;
+    assert!(rt; tree.find(&root)?.is_folder());
+    assert_eq!(rt; tree.entries(&root)?.len(), 2);
+    assert!(rt; tree.list(&root)?.is_some());
+    assert!(rt; LabelledTree::new(rt.alloc()).get(&root).is_none());
     Ok(())
 }
