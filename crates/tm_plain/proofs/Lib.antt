@@ -1,5 +1,4 @@
 pub mod WalkSteps
 pub mod ItemLemmas
-pub mod Passes
 pub mod LastLemmas
 pub mod RunLemmas

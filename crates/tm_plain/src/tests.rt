@@ -21,150 +21,127 @@ fn moment(seconds: u64) -> Result<Moment, Fail> {
     Ok(Moment::from_seconds(seconds).ok_or("a moment")?)
 }
 
+// A root with the folder `a`, in which the file `f` stands.
+fn tree(rt: &HostRuntime) -> Result<Tree, Fail> {
+    let alloc = rt.alloc();
+    let mut tree = Tree::new(alloc, Item::new_folder(alloc, moment(1)?))?;
+    tree.put(path(rt, &["a"])?, Item::new_folder(alloc, moment(2)?))?;
+    let file = Item::new_file(alloc, moment(3)?, 4, bytes(rt, "hi")?);
+    tree.put(path(rt, &["a", "f"])?, file)?;
+    Ok(tree)
+}
+
+#[test]
+fn items_are_counted(rt: HostRuntime) -> Result<(), Fail> {
+    let tree = tree(&rt)?;
+    assert_eq!(rt; tree.len(), 3);
+    assert_eq!(rt; tree.folders(), 2);
+    Ok(())
+}
+
+#[test]
+fn items_are_found(rt: HostRuntime) -> Result<(), Fail> {
+    let tree = tree(&rt)?;
+    let a = path(&rt, &["a"])?;
+    assert!(rt; tree.has_folder(&a));
+    assert!(rt; tree.get(&a).is_some());
+    assert_eq!(rt; tree.children(&a), 1);
+    assert_eq!(rt; tree.way(&a)?, Way::AtFolder);
+    assert!(rt; tree.find(&a)?.is_folder());
+    Ok(())
+}
+
+#[test]
+fn folders_are_listed(rt: HostRuntime) -> Result<(), Fail> {
+    let tree = tree(&rt)?;
+    let a = path(&rt, &["a"])?;
+    assert!(rt; tree.list(&a)?.is_some());
+    assert_eq!(rt; tree.entries(&a)?.len(), 1);
+    Ok(())
+}
+
+#[test]
+fn items_are_changed(rt: HostRuntime) -> Result<(), Fail> {
+    let mut tree = tree(&rt)?;
+    let a = path(&rt, &["a"])?;
+    tree.change(&a, Attrs::new(rt.alloc(), 0o700, moment(5)?), 9);
+    tree.touch(&a, moment(6)?);
+    let attrs = tree.find(&a)?.attrs();
+    assert_eq!(rt; attrs.mode, 0o700);
+    assert_eq!(rt; attrs.modified, moment(6)?);
+    Ok(())
+}
+
+#[test]
+fn items_are_moved(rt: HostRuntime) -> Result<(), Fail> {
+    let mut tree = tree(&rt)?;
+    let (a, b) = (path(&rt, &["a"])?, path(&rt, &["b"])?);
+    if !tree.is_too_deep(&a, &b) {
+        tree.move_all(&a, &b)?;
+    }
+    assert!(rt; tree.get(&a).is_none());
+    tree.remove(&b);
+    assert_eq!(rt; tree.len(), 2);
+    Ok(())
+}
+
 fn volume(rt: &HostRuntime) -> Result<Volume, Fail> {
     let name = Name::read(rt.alloc(), b"Home")?;
     Ok(Volume::blank(rt.alloc(), &name, 7, 100, moment(10)?)?)
 }
 
+// A line that fills a file in the root with the three bytes 250, 1 and 8.
+fn fill(rt: &HostRuntime, name: &str) -> Result<Change, Fail> {
+    Ok(Change::Fill {
+        path: path(rt, &[name])?,
+        length: 3,
+        seed: 250,
+    })
+}
+
 #[test]
-fn trees_are_changed(rt: HostRuntime) -> Result<(), Fail> {
-    let alloc = rt.alloc();
-    let (root, a, b) = (path(&rt, &[])?, path(&rt, &["a"])?, path(&rt, &["b"])?);
-    let in_a = path(&rt, &["a", "f"])?;
-    let mut tree = Tree::new(alloc, Item::new_folder(alloc, moment(1)?))?;
-    tree.put(a.clone()?, Item::new_folder(alloc, moment(2)?))?;
-    let file = Item::new_file(alloc, moment(3)?, 4, bytes(&rt, "hi")?);
-    tree.put(in_a.clone()?, file)?;
-    assert_eq!(rt; tree.len(), 3);
-    assert_eq!(rt; tree.folders(), 2);
-    assert_eq!(rt; tree.children(&root), 1);
-    assert_eq!(rt; tree.way(&in_a)?, Way::AtFile);
-    assert!(rt; tree.has_folder(&a));
-    assert!(rt; !tree.is_too_deep(&a, &b));
-    tree.move_all(&a, &b)?;
-    assert!(rt; tree.get(&in_a).is_none());
-    let moved = path(&rt, &["b", "f"])?;
-    tree.change(&moved, Attrs::new(alloc, 0o600, moment(5)?), 9);
-    tree.touch(&b, moment(6)?);
-    assert_eq!(rt; tree.find(&moved)?.attrs().mode, 0o600);
-    assert_eq!(rt; tree.find(&b)?.attrs().modified, moment(6)?);
-    tree.remove(&moved);
-    assert_eq!(rt; tree.len(), 2);
+fn a_volume_is_changed(rt: HostRuntime) -> Result<(), Fail> {
+    let mut volume = volume(&rt)?;
+    let touches = volume.change(&fill(&rt, "f")?, Some(moment(20)?))?;
+    // One number is drawn for the stamp, and then one for the touch.
+    assert_eq!(rt; touches.as_slice().len(), 1);
+    assert_eq!(rt; volume.next(), 3);
+    match volume.find(&path(&rt, &["f"])?)? {
+        Item::File { stamp, bytes, .. } => {
+            assert_eq!(rt; *stamp, 1);
+            assert!(rt; bytes.as_slice() == [250, 1, 8].as_slice());
+        }
+        _ => return Err(Fail::from("a file")),
+    }
     Ok(())
 }
 
 #[test]
-fn every_change_is_made_once(rt: HostRuntime) -> Result<(), Fail> {
+fn a_line_is_refused(rt: HostRuntime) -> Result<(), Fail> {
     let mut volume = volume(&rt)?;
-    let (a, b, c) = (path(&rt, &["a"])?, path(&rt, &["b"])?, path(&rt, &["c"])?);
-    let (f, l) = (path(&rt, &["a", "f"])?, path(&rt, &["l"])?);
-    let note = Name::read(rt.alloc(), b"note")?;
-    let hide = Name::read(
-        rt.alloc(),
-        b"com.apple.metadata:com_apple_backup_excludeItem",
-    )?;
-    // Beside each change the number that is next after it: one a stamp, and then one a touch.
-    let changes = vec![in rt.alloc();
-        (Change::Mkdir { path: a.clone()? }, 3),
-        (
-            Change::Write {
-                path: f.clone()?,
-                bytes: bytes(&rt, "hi")?
-            },
-            5
-        ),
-        (
-            Change::Append {
-                path: f.clone()?,
-                bytes: bytes(&rt, "!")?
-            },
-            7
-        ),
-        (
-            Change::Fill {
-                path: c.clone()?,
-                length: 3,
-                seed: 250
-            },
-            9
-        ),
-        (
-            Change::Ln {
-                path: l.clone()?,
-                target: bytes(&rt, "/c")?
-            },
-            11
-        ),
-        (
-            Change::Chmod {
-                path: a.clone()?,
-                mode: 0o700
-            },
-            12
-        ),
-        (
-            Change::Chown {
-                path: l.clone()?,
-                uid: 1,
-                gid: 2
-            },
-            14
-        ),
-        (
-            Change::Setx {
-                path: c.clone()?,
-                name: note.clone()?,
-                value: bytes(&rt, "v")?
-            },
-            16
-        ),
-        (
-            Change::Rmx {
-                path: c.clone()?,
-                name: note
-            },
-            18
-        ),
-        (
-            Change::Setx {
-                path: a.clone()?,
-                name: hide,
-                value: bytes(&rt, "")?
-            },
-            20
-        ),
-        (Change::Fix { path: c.clone()? }, 22),
-        (Change::Unfix { path: c.clone()? }, 24),
-        (
-            Change::Mv {
-                path: a,
-                to: b.clone()?
-            },
-            27
-        ),
-        (Change::Rm { path: l.clone()? }, 28),
-        (Change::Mkdir { path: l.clone()? }, 30),
-        (Change::Rmdir { path: l }, 31),
-    ]?;
-    for (change, next) in &changes {
-        volume.change(change, Some(moment(20)?))?;
-        assert_eq!(rt; volume.next(), *next);
+    let mkdir = Change::Mkdir {
+        path: path(&rt, &[])?,
+    };
+    match volume.change(&mkdir, Some(moment(20)?)) {
+        Err(LineFault::Refused(why)) => assert_eq!(rt; why, Refused::Exists),
+        _ => return Err(Fail::from("refused")),
     }
-    match volume.find(&path(&rt, &["b", "f"])?)? {
-        Item::File { stamp, bytes, .. } => {
-            assert_eq!(rt; *stamp, 5);
-            assert!(rt; bytes.as_slice() == b"hi!".as_slice());
-        }
-        _ => return Err(Fail::from("a file")),
-    }
-    match volume.find(&c)? {
-        Item::File { bytes, .. } => assert!(rt; bytes.as_slice() == [250, 1, 8].as_slice()),
-        _ => return Err(Fail::from("a file")),
-    }
-    let listing = volume.list(&path(&rt, &[])?)?.ok_or("a folder")?;
-    assert_eq!(rt; listing.rows.as_slice().len(), 2);
-    // The excluded folder and its file are not in the view.
-    assert_eq!(rt; volume.view()?.len(), 2);
+    Ok(())
+}
+
+#[test]
+fn a_volume_is_seen(rt: HostRuntime) -> Result<(), Fail> {
+    let volume = volume(&rt)?;
+    let root = path(&rt, &[])?;
+    assert_eq!(rt; volume.view()?.len(), 1);
+    assert_eq!(rt; volume.entries(&root)?.len(), 0);
+    assert!(rt; volume.list(&root)?.is_some());
+    Ok(())
+}
+
+#[test]
+fn a_volume_has_a_head(rt: HostRuntime) -> Result<(), Fail> {
+    let volume = volume(&rt)?;
     assert_eq!(rt; volume.fixed().len(), 0);
     assert!(rt; volume.name().as_bytes() == b"Home".as_slice());
     assert_eq!(rt; volume.id(), 7);
@@ -173,104 +150,66 @@ fn every_change_is_made_once(rt: HostRuntime) -> Result<(), Fail> {
     Ok(())
 }
 
-#[test]
-fn lines_are_refused(rt: HostRuntime) -> Result<(), Fail> {
-    let mut volume = volume(&rt)?;
-    let (root, a, q) = (path(&rt, &[])?, path(&rt, &["a"])?, path(&rt, &["q"])?);
-    let now = Some(moment(20)?);
-    volume.change(&Change::Mkdir { path: a.clone()? }, now)?;
-    let changes = vec![in rt.alloc();
-        (
-            Change::Mkdir {
-                path: root.clone()?
-            },
-            Refused::Exists
-        ),
-        (
-            Change::Rm {
-                path: root.clone()?
-            },
-            Refused::IsFolder
-        ),
-        (Change::Rm { path: q.clone()? }, Refused::NotFound),
-        (
-            Change::Rmdir {
-                path: root.clone()?
-            },
-            Refused::NotEmpty
-        ),
-        (
-            Change::Mv {
-                path: a.clone()?,
-                to: path(&rt, &["a", "b"])?
-            },
-            Refused::IntoSelf
-        ),
-        (
-            Change::Mv {
-                path: root,
-                to: q.clone()?
-            },
-            Refused::IntoSelf
-        ),
-        (
-            Change::Fill {
-                path: q.clone()?,
-                length: 16_777_217,
-                seed: 0
-            },
-            Refused::TooLong { length: 16_777_217 }
-        ),
-        (Change::Unfix { path: q }, Refused::NotExcluded),
-    ]?;
-    for (change, why) in &changes {
-        match volume.change(change, now) {
-            Err(LineFault::Refused(refused)) => assert_eq!(rt; refused, *why),
-            _ => return Err(Fail::from("refused")),
-        }
+fn machine(rt: &HostRuntime) -> Result<Name, Fail> {
+    Ok(Name::read(rt.alloc(), b"Mac")?)
+}
+
+// A store with two backups: the second has the file `g` besides.
+fn store(rt: &HostRuntime) -> Result<Store, Fail> {
+    let mut volume = volume(rt)?;
+    let mut store = Store::new(rt.alloc(), &machine(rt)?)?;
+    volume.change(&fill(rt, "f")?, Some(moment(30)?))?;
+    store.complete(&volume, moment(30)?)?;
+    volume.change(&fill(rt, "g")?, Some(moment(40)?))?;
+    if store.number() < 9 {
+        store.complete(&volume, moment(40)?)?;
     }
-    assert_eq!(rt; volume.next(), 3);
-    Ok(())
+    Ok(store)
 }
 
 #[test]
 fn backups_are_kept(rt: HostRuntime) -> Result<(), Fail> {
-    let mut volume = volume(&rt)?;
-    let (f, g) = (path(&rt, &["f"])?, path(&rt, &["g"])?);
-    let machine = Name::read(rt.alloc(), b"Mac")?;
-    let mut store = Store::new(rt.alloc(), &machine)?;
-    assert!(rt; LabelledTree::new(rt.alloc()).get(&f).is_none());
-    for (file, seconds) in [(&f, 30), (&g, 40)] {
-        let line = Change::Fill {
-            path: file.clone()?,
-            length: 1,
-            seed: 0,
-        };
-        volume.change(&line, Some(moment(seconds)?))?;
-        store.complete(&volume, moment(seconds)?)?;
-    }
+    let store = store(&rt)?;
     assert_eq!(rt; store.number(), 3);
-    assert!(rt; *store.machine() == machine);
+    assert!(rt; *store.machine() == machine(&rt)?);
     assert_eq!(rt; store.snapshots().len(), 2);
-    let first = store
-        .snapshot_at(&machine, Some(moment(30)?))
-        .ok_or("the first")?;
-    assert_eq!(rt; first.cursor(), 2);
-    assert!(rt; first.tree().get(&g).is_none());
-    let last = store
-        .snapshot_under(&machine, None, volume.name())
-        .ok_or("the last")?;
+    let first = store.snapshot_at(&machine(&rt)?, Some(moment(30)?));
+    assert_eq!(rt; first.ok_or("a snapshot")?.cursor(), 2);
+    Ok(())
+}
+
+#[test]
+fn snapshots_are_found(rt: HostRuntime) -> Result<(), Fail> {
+    let store = store(&rt)?;
+    let last = store.latest().ok_or("a snapshot")?;
     assert_eq!(rt; last.date(), moment(40)?);
-    assert!(rt; *last.volume() == *volume.name());
     assert_eq!(rt; last.id(), 7);
     assert_eq!(rt; last.generation(), 1);
+    let found = store.snapshot_under(&machine(&rt)?, None, last.volume());
+    assert!(rt; found.is_some());
+    Ok(())
+}
+
+#[test]
+fn unchanged_files_keep_their_labels(rt: HostRuntime) -> Result<(), Fail> {
+    let store = store(&rt)?;
+    let tree = store.latest().ok_or("a snapshot")?.tree();
     // The file of the first backup keeps its label; the root has changed.
-    for (at, label) in [(&f, 1), (&g, 2), (&path(&rt, &[])?, 2)] {
-        assert_eq!(rt; last.tree().get(at).ok_or("an item")?.label, label);
+    for (words, label) in [(["f"].as_slice(), 1), (&["g"], 2), (&[], 2)] {
+        let labelled = tree.get(&path(&rt, words)?).ok_or("an item")?;
+        assert_eq!(rt; labelled.label, label);
     }
-    assert!(rt; !last.tree().find(&f)?.is_folder());
-    let listing = last.tree().list(&path(&rt, &[])?)?.ok_or("a folder")?;
-    assert_eq!(rt; listing.rows.as_slice().len(), 2);
-    assert!(rt; store.latest().is_some());
+    Ok(())
+}
+
+#[test]
+fn snapshots_are_listed(rt: HostRuntime) -> Result<(), Fail> {
+    let store = store(&rt)?;
+    let tree = store.latest().ok_or("a snapshot")?.tree();
+    let root = path(&rt, &[])?;
+    assert!(rt; tree.find(&root)?.is_folder());
+    assert_eq!(rt; tree.entries(&root)?.len(), 2);
+    assert!(rt; tree.list(&root)?.is_some());
+    assert!(rt; LabelledTree::new(rt.alloc()).get(&root).is_none());
     Ok(())
 }

@@ -3,3 +3,12 @@ pub mod AtPaths
 pub mod SameItems
 pub mod CopyProofs
 pub mod ExtraLemmas
+pub mod Passes
+pub mod Moves
+pub mod TreesKept
+pub mod WalkProofs
+pub mod Edits
+pub mod MovesKept
+pub mod ViewsKept
+pub mod LinesKept
+pub mod NewTrees

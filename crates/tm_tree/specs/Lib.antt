@@ -12,3 +12,4 @@ pub mod Changes
 pub mod States
 pub mod Making
 pub mod Lookups
+pub mod TreeLaws

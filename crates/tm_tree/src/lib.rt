@@ -15,7 +15,10 @@ mod walk;
 pub use attrs::{Attrs, Extras, is_exclusion};
 pub use change::Change;
 pub use item::{Item, Labelled};
-pub use laws::{copy_is_whole, copy_of_part, copy_over_same};
+pub use laws::{
+    copy_is_whole, copy_of_part, copy_over_same, moves_items, new_is_tree, tree_is_kept,
+    view_is_tree,
+};
 pub use listing::{ListKind, ListRow, ListRows, Listing};
 pub use node::{Child, Entries, LeafRow, NodeBody, NodeId, NodeRow};
 pub use record::{ItemBody, ItemRow};

@@ -1,5 +1,5 @@
 use Rattle.std.proofs.Common.{arith, ap, length}
-use Rattle.tm_plain.proofs.Passes.{few_touches}
+use Rattle.tm_tree.proofs.Passes.{few_touches}
 use Rattle.tm_plain.proofs.tree.Tree.numbers.Goals as goal
 
 pub overflow_add-result : goal.overflow_add-result

@@ -1,6 +1,6 @@
 use Rattle.std.proofs.Common.{arith, ap, sym, ◌∙◌}
 use Rattle.tm_tree.specs.States.{VolumeState}
-use Rattle.tm_plain.proofs.Passes.{numbers_left}
+use Rattle.tm_tree.proofs.Passes.{numbers_left}
 use Rattle.tm_plain.proofs.volume.Volume.change.Goals as goal
 
 pub draw-requires : goal.draw-requires

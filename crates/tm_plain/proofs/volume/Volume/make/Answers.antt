@@ -1,5 +1,5 @@
 use Rattle.std.proofs.Common.{refl}
-use Rattle.tm_plain.proofs.Passes.{dated_moment}
+use Rattle.tm_tree.proofs.Passes.{dated_moment}
 use Rattle.tm_plain.proofs.volume.Volume.make.Goals as goal
 
 pub unwrap-requires-in-Fill : goal.unwrap-requires-in-Fill

@@ -3,7 +3,7 @@ use Rattle.std.specs.Option.{option_or}
 use Rattle.tm_tree.specs.Changes.{own_tests, ids_spent}
 use Rattle.tm_tree.specs.Refusing.{first_refused}
 use Rattle.tm_tree.specs.Touches.{numbers}
-use Rattle.tm_plain.proofs.Passes.{first_or}
+use Rattle.tm_tree.proofs.Passes.{first_or}
 use Rattle.tm_plain.proofs.volume.Volume.refusal.Goals as goal
 
 pub returns : goal.returns

@@ -49,7 +49,7 @@ is_dated (Mv a b) = true
 is_dated (Ln p target) = true
 is_dated _ = false
 
-own_pass : (v : Contents) (c : Change) (m : Option ℕ) → first_refused (tests v c m) ≡ None → first_refused (own_tests v c m) ≡ None
+pub own_pass : (v : Contents) (c : Change) (m : Option ℕ) → first_refused (tests v c m) ≡ None → first_refused (own_tests v c m) ≡ None
 own_pass v c m h = none_before (own_tests v c m) (ids_spent v (numbers v.tree c)) h
 
 dated_own : (v : Contents) (c : Change) (m : Option ℕ) → is_dated c ≡ true → first_refused (own_tests v c m) ≡ None → IsSome m
