@@ -12,5 +12,8 @@ mod script;
 mod site;
 mod world;
 
+#[cfg(test)]
+mod tests;
+
 pub use error::Memory;
-pub use world::MemWorld;
+pub use world::{MemWorld, tells};

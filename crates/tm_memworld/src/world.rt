@@ -1,10 +1,10 @@
 //! A world in memory.
 ghost use Rattle.std.specs.Prelude.{◌≡◌, ◌≢◌, ◌<◌, ◌≤◌, ◌↔◌, ◌++◌, ◌||◌, [], ℕ, length, min, take, drop, Some, IsTrue, IsErr, IsNone, IfOk, IfSome, IfNone, OnOk, OnErr, OnSome};
 ghost use Rattle.std.specs.Option.{ForSome};
-ghost use Rattle.tm_world.specs.Disk.{IsLeft};
 ghost use Rattle.tm_world.specs.Outside.{disk, took, spoke, attached, attached_count, part_of};
 ghost use Rattle.tm_world.specs.Log.{now, Steps, Says, Writes};
 ghost use Rattle.tm_world.specs.Faults.{Rose, NeverLess};
+ghost use Rattle.tm_world.specs.Pairs.{MayLeave};
 ghost use Rattle.tm_world.specs.Torn.{as_read};
 ghost use Rattle.tm_memworld.specs.Faults.{one_more};
 ghost use Rattle.tm_memworld.specs.Putting.{with_script};
@@ -97,7 +97,7 @@ impl MemWorld {
     /// number. What stands then is one of the pairs of images that the stop might leave.
     pub fn stop(&mut self, torn: &[u8; 4096])
         ensures state { state self.new ≡ after_stop torn.now (state self.old) }
-        ensures left { (side : Side) → IsLeft (disk side (state self.old).outside) (as_read (disk side (state self.new).outside)) }
+        ensures left { MayLeave (state self.old).outside (λ side. as_read (disk side (state self.new).outside)) }
     {
         self.devices.stop(torn);
         self.plan.clear();
@@ -173,6 +173,15 @@ impl MemWorld {
         }
     }
 }
+
+/// What the trait's clauses speak of is what the world shows: contents are told, what is outside now, how many
+/// blocks each side has, and the counts of faults.
+pub fn tells(world: &MemWorld)
+    ensures told { ⟦<MemWorld as World>⟧.told }
+    ensures outside { now (⟦<MemWorld as World>⟧.log world.now) ≡ (state world.now).outside }
+    ensures blocks { ⟦<MemWorld as World>⟧.blocks world.now ≡ blocks_of world.now }
+    ensures faults { ⟦<MemWorld as World>⟧.faults world.now ≡ (state world.now).faults }
+{}
 
 // The part of a side.
 fn part(side: Side) -> Part
