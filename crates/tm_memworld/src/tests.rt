@@ -58,14 +58,14 @@ fn fails(world: &mut MemWorld, call: Call) -> bool
     done.is_err()
 }
 
-/// Makes the first calls of the table, so many of them, and answers which failed.
-fn failed(world: &mut MemWorld, count: usize) -> [bool; 6]
+/// Makes so many calls of a table, and answers which failed.
+fn failed(world: &mut MemWorld, calls: &[Call; 6], count: usize) -> [bool; 6]
     requires { (side : Side) → blocks_of world.old side ≡ 4 }
-    ensures { blocks_of world.new ≡ blocks_of world.old }
+    ensures { (side : Side) → blocks_of world.new side ≡ 4 }
 {
     let mut failed = [false; 6];
     for i in 0..count.min(6) {
-        failed[i] = fails(world, CALLS[i]);
+        failed[i] = fails(world, calls[i]);
     }
     failed
 }
@@ -83,21 +83,26 @@ fn first_byte(world: &mut MemWorld, side: Side, block: u32) -> u8
     }
 }
 
-/// What block 1 of the volume and block 2 of the store begin with after a stop, and how many bytes
-/// are said then.
-fn left_by_a_stop(world: &mut MemWorld) -> (u8, u8, usize) {
+/// What block 1 of the volume and block 2 of the store begin with.
+fn first_bytes(world: &mut MemWorld) -> (u8, u8)
+    requires { (side : Side) → blocks_of world.old side ≡ 4 }
+{
+    let volume = first_byte(world, Side::Volume, 1);
+    (volume, first_byte(world, Side::Store, 2))
+}
+
+/// The same after a stop with both sides attached again, and how many bytes are said then.
+fn left_by_a_stop(world: &mut MemWorld) -> Option<(u8, u8, usize)> {
     world.stop(&[5; 4096]);
-    let volume = world.attach(Part::Volume, "v", None);
-    let store = world.attach(Part::Store, "s", None);
-    let (Ok(4), Ok(4)) = (volume, store) else {
-        return (255, 255, 255);
-    };
     let said = world.said().len();
-    (
-        first_byte(world, Side::Volume, 1),
-        first_byte(world, Side::Store, 2),
-        said,
-    )
+    let Ok(4) = world.attach(Part::Volume, "v", None) else {
+        return None;
+    };
+    let Ok(4) = world.attach(Part::Store, "s", None) else {
+        return None;
+    };
+    let (volume, store) = first_bytes(world);
+    Some((volume, store, said))
 }
 
 #[test]
@@ -105,8 +110,8 @@ fn a_stop_after_each_call(rt: HostRuntime) -> Result<(), Fail> {
     let left = [(0, 0), (5, 0), (5, 5), (7, 5), (5, 5), (5, 5), (5, 8)];
     for (count, (volume, store)) in left.iter().enumerate() {
         let mut world = opened(rt.alloc(), 64, 16, 16).ok_or("memory")?;
-        assert_eq!(rt; failed(&mut world, count), [false; 6]);
-        assert_eq!(rt; left_by_a_stop(&mut world), (*volume, *store, 0), "after {count}");
+        assert_eq!(rt; failed(&mut world, &CALLS, count), [false; 6]);
+        assert_eq!(rt; left_by_a_stop(&mut world), Some((*volume, *store, 0)), "after {count}");
     }
     Ok(())
 }
@@ -119,8 +124,8 @@ fn each_call_fails_in_turn(rt: HostRuntime) -> Result<(), Fail> {
         world.fail_at(&[2 + at as u64])?;
         let mut want = [false; 6];
         want[at] = true;
-        assert_eq!(rt; failed(&mut world, 6), want);
-        assert_eq!(rt; left_by_a_stop(&mut world), (*volume, *store, 0), "with {at} failing");
+        assert_eq!(rt; failed(&mut world, &CALLS, 6), want);
+        assert_eq!(rt; left_by_a_stop(&mut world), Some((*volume, *store, 0)), "with {at} failing");
     }
     Ok(())
 }
@@ -129,8 +134,8 @@ fn each_call_fails_in_turn(rt: HostRuntime) -> Result<(), Fail> {
 fn a_fuse_ends_at_a_stop(rt: HostRuntime) -> Result<(), Fail> {
     let mut world = opened(rt.alloc(), 64, 16, 16).ok_or("memory")?;
     world.fuse(4);
-    assert_eq!(rt; failed(&mut world, 6), [false, false, true, true, true, true]);
-    assert_eq!(rt; left_by_a_stop(&mut world), (5, 5, 0));
+    assert_eq!(rt; failed(&mut world, &CALLS, 6), [false, false, true, true, true, true]);
+    assert_eq!(rt; left_by_a_stop(&mut world), Some((5, 5, 0)));
     Ok(())
 }
 
@@ -138,21 +143,25 @@ fn a_fuse_ends_at_a_stop(rt: HostRuntime) -> Result<(), Fail> {
 fn room_is_used_up(rt: HostRuntime) -> Result<(), Fail> {
     let mut world = opened(rt.alloc(), 7, 1, 3).ok_or("memory")?;
     let calls = [
-        (Call::Write(Side::Volume, 1, 7), false),
-        (Call::Write(Side::Volume, 1, 8), true),
-        (Call::Say, false),
-        (Call::Say, true),
-        (Call::Sync(Side::Volume), false),
-        (Call::Sync(Side::Volume), true),
+        Call::Write(Side::Volume, 1, 7),
+        Call::Write(Side::Volume, 1, 8),
+        Call::Say,
+        Call::Say,
+        Call::Sync(Side::Volume),
+        Call::Sync(Side::Volume),
     ];
-    for (call, want) in calls {
-        assert_eq!(rt; fails(&mut world, call), want);
-    }
+    assert_eq!(rt; failed(&mut world, &calls, 6), [false, true, false, true, false, true]);
     world.room(2, 0, 2)?;
-    assert!(rt; !fails(&mut world, Call::Say));
+    let calls = [
+        Call::Say,
+        Call::Sync(Side::Store),
+        Call::Sync(Side::Store),
+        Call::Say,
+        Call::Sync(Side::Volume),
+        Call::Write(Side::Volume, 0, 7),
+    ];
+    assert_eq!(rt; failed(&mut world, &calls, 6), [false, false, true, true, true, true]);
     assert_eq!(rt; world.said(), b"okok".as_slice());
-    assert!(rt; !fails(&mut world, Call::Sync(Side::Store)));
-    assert!(rt; fails(&mut world, Call::Sync(Side::Store)));
     Ok(())
 }
 

@@ -1,5 +1,5 @@
 //! A world in memory.
-ghost use Rattle.std.specs.Prelude.{◌≡◌, ◌≢◌, ◌<◌, ◌≤◌, ◌↔◌, ◌++◌, ◌||◌, [], ℕ, length, min, take, drop, Some, IsTrue, IsErr, IsNone, IfOk, IfSome, IfNone, OnOk, OnErr, OnSome};
+ghost use Rattle.std.specs.Prelude.{◌≡◌, ◌≢◌, ◌<◌, ◌≤◌, ◌↔◌, ◌++◌, ◌||◌, [], ℕ, length, min, take, drop, Some, IsTrue, IsErr, IsNone, IsOkAnd, IfOk, IfSome, IfNone, OnOk, OnErr, OnSome};
 ghost use Rattle.std.specs.Option.{ForSome};
 ghost use Rattle.tm_world.specs.Outside.{disk, took, spoke, attached, attached_count, part_of};
 ghost use Rattle.tm_world.specs.Log.{now, Steps, Says, Writes};
@@ -32,9 +32,9 @@ pub struct MemWorld {
 
 #[tactic(auto, unfolding(crate::specs::World::state, crate::specs::World::clock))]
 impl MemWorld {
-    /// An empty world without room.
+    /// An empty world without room. It takes no memory.
     pub fn new(alloc: Global) -> Result<MemWorld, Memory>
-        ensures { IfOk result (λ w. state w ≡ start) }
+        ensures { IsOkAnd result (λ w. state w ≡ start) }
     {
         Ok(MemWorld {
             devices: Devices::new(alloc),
