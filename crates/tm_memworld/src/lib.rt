@@ -10,10 +10,9 @@ mod plan;
 mod room;
 mod script;
 mod site;
-mod world;
-
 #[cfg(test)]
 mod tests;
+mod world;
 
 pub use error::Memory;
 pub use world::{MemWorld, tells};

@@ -111,7 +111,11 @@ fn a_stop_after_each_call(rt: HostRuntime) -> Result<(), Fail> {
     for (count, (volume, store)) in left.iter().enumerate() {
         let mut world = opened(rt.alloc(), 64, 16, 16).ok_or("memory")?;
         assert_eq!(rt; failed(&mut world, &CALLS, count), [false; 6]);
-        assert_eq!(rt; left_by_a_stop(&mut world), Some((*volume, *store, 0)), "after {count}");
+        assert_eq!(rt;
+            left_by_a_stop(&mut world),
+            Some((*volume, *store, 0)),
+            "after {count}"
+        );
     }
     Ok(())
 }
@@ -125,7 +129,11 @@ fn each_call_fails_in_turn(rt: HostRuntime) -> Result<(), Fail> {
         let mut want = [false; 6];
         want[at] = true;
         assert_eq!(rt; failed(&mut world, &CALLS, 6), want);
-        assert_eq!(rt; left_by_a_stop(&mut world), Some((*volume, *store, 0)), "with {at} failing");
+        assert_eq!(rt;
+            left_by_a_stop(&mut world),
+            Some((*volume, *store, 0)),
+            "with {at} failing"
+        );
     }
     Ok(())
 }
@@ -134,7 +142,10 @@ fn each_call_fails_in_turn(rt: HostRuntime) -> Result<(), Fail> {
 fn a_fuse_ends_at_a_stop(rt: HostRuntime) -> Result<(), Fail> {
     let mut world = opened(rt.alloc(), 64, 16, 16).ok_or("memory")?;
     world.fuse(4);
-    assert_eq!(rt; failed(&mut world, &CALLS, 6), [false, false, true, true, true, true]);
+    assert_eq!(rt;
+        failed(&mut world, &CALLS, 6),
+        [false, false, true, true, true, true]
+    );
     assert_eq!(rt; left_by_a_stop(&mut world), Some((5, 5, 0)));
     Ok(())
 }
@@ -150,7 +161,10 @@ fn room_is_used_up(rt: HostRuntime) -> Result<(), Fail> {
         Call::Sync(Side::Volume),
         Call::Sync(Side::Volume),
     ];
-    assert_eq!(rt; failed(&mut world, &calls, 6), [false, true, false, true, false, true]);
+    assert_eq!(rt;
+        failed(&mut world, &calls, 6),
+        [false, true, false, true, false, true]
+    );
     world.room(2, 0, 2)?;
     let calls = [
         Call::Say,
@@ -160,7 +174,10 @@ fn room_is_used_up(rt: HostRuntime) -> Result<(), Fail> {
         Call::Sync(Side::Volume),
         Call::Write(Side::Volume, 0, 7),
     ];
-    assert_eq!(rt; failed(&mut world, &calls, 6), [false, false, true, true, true, true]);
+    assert_eq!(rt;
+        failed(&mut world, &calls, 6),
+        [false, false, true, true, true, true]
+    );
     assert_eq!(rt; world.said(), b"okok".as_slice());
     Ok(())
 }
@@ -196,7 +213,13 @@ fn images_are_made_in_places(rt: HostRuntime) -> Result<(), Fail> {
     world.put_image("p", 3)?;
     assert_eq!(rt; world.attach(Part::Store, "p", None), Ok(3));
     let long = [b'a'; 1024];
-    assert_eq!(rt; world.attach(Part::Store, str::from_utf8(&long[..1023])?, None), Ok(0));
-    assert_eq!(rt; world.attach(Part::Store, str::from_utf8(&long)?, None), Err(Failed));
+    assert_eq!(rt;
+        world.attach(Part::Store, str::from_utf8(&long[..1023])?, None),
+        Ok(0)
+    );
+    assert_eq!(rt;
+        world.attach(Part::Store, str::from_utf8(&long)?, None),
+        Err(Failed)
+    );
     Ok(())
 }

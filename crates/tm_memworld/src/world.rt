@@ -1,5 +1,5 @@
 //! A world in memory.
-ghost use Rattle.std.specs.Prelude.{◌≡◌, ◌≢◌, ◌<◌, ◌≤◌, ◌↔◌, ◌++◌, ◌||◌, [], ℕ, length, min, take, drop, Some, IsTrue, IsErr, IsNone, IsOkAnd, IfOk, IfSome, IfNone, OnOk, OnErr, OnSome};
+ghost use Rattle.std.specs.Prelude.{◌≡◌, ◌≢◌, ◌<◌, ◌≤◌, ◌↔◌, ◌++◌, ◌||◌, [], ℕ, length, min, take, drop, Some, IsTrue, IsErr, IsSome, IsNone, IsOkAnd, IfOk, IfSome, IfNone, OnOk, OnErr, OnSome};
 ghost use Rattle.std.specs.Option.{ForSome};
 ghost use Rattle.tm_world.specs.Outside.{disk, took, spoke, attached, attached_count, part_of};
 ghost use Rattle.tm_world.specs.Log.{now, Steps, Says, Writes};
@@ -155,6 +155,7 @@ impl MemWorld {
         ensures ok { OnSome result (Steps (clock self.old) (clock self.new) (attached part path.now create (now (clock self.old)))) }
         ensures stays { IfNone result (Steps (clock self.old) (clock self.new) (now (clock self.old))) }
         ensures count { IfSome result (λ n. n ≡ attached_count part (now (clock self.new))) }
+        ensures script { part ≡ Part.Script → OnSome result (IsSome ((now (clock self.old)).scripts path.now)) }
         ensures most { IfSome result (λ n. n ≤ 262144) }
         ensures other { (side : Side) → part_of side ≢ part → OnSome result (blocks_of self.new side ≡ blocks_of self.old side) }
         ensures state { state self.new ≡ used 0 0 (with_outside (now (clock self.new)) (state self.old)) }
@@ -218,6 +219,7 @@ impl World for MemWorld {
         ensures ok { OnOk result (Steps (clock self.old) (clock self.new) (attached part path.now create (now (clock self.old)))) }
         ensures err { OnErr result (Steps (clock self.old) (clock self.new) (now (clock self.old))) }
         ensures count { IfOk result (λ n. n ≡ attached_count part (now (clock self.new))) }
+        ensures script { part ≡ Part.Script → OnOk result (IsSome ((now (clock self.old)).scripts path.now)) }
         ensures most { IfOk result (λ n. n ≤ 262144) }
         ensures blocks { (side : Side) → part_of side ≡ part → IfOk result (λ n. blocks_of self.new side ≡ n) }
         ensures other { (side : Side) → part_of side ≢ part → blocks_of self.new side ≡ blocks_of self.old side }
