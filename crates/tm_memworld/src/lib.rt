@@ -10,7 +10,9 @@ mod plan;
 mod room;
 mod script;
 mod site;
+#[cfg(test)]
+mod tests;
 mod world;
 
 pub use error::Memory;
-pub use world::MemWorld;
+pub use world::{MemWorld, tells};

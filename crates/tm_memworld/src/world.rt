@@ -1,11 +1,10 @@
 //! A world in memory.
-ghost use Rattle.std.specs.Prelude.{◌≡◌, ◌≢◌, ◌<◌, ◌≤◌, ◌↔◌, ◌++◌, ◌||◌, [], ℕ, length, min, take, drop, Some, IsTrue, IsErr, IsSome, IsNone, IfOk, IfSome, IfNone, OnOk, OnErr, OnSome};
+ghost use Rattle.std.specs.Prelude.{◌≡◌, ◌≢◌, ◌<◌, ◌≤◌, ◌↔◌, ◌++◌, ◌||◌, [], ℕ, length, min, take, drop, Some, IsTrue, IsErr, IsSome, IsNone, IsOkAnd, IfOk, IfSome, IfNone, OnOk, OnErr, OnSome};
 ghost use Rattle.std.specs.Option.{ForSome};
-ghost use Rattle.tm_world.specs.declared.world.Part.{Part};
-ghost use Rattle.tm_world.specs.Disk.{IsLeft};
 ghost use Rattle.tm_world.specs.Outside.{disk, took, spoke, attached, attached_count, part_of};
 ghost use Rattle.tm_world.specs.Log.{now, Steps, Says, Writes};
 ghost use Rattle.tm_world.specs.Faults.{Rose, NeverLess};
+ghost use Rattle.tm_world.specs.Pairs.{MayLeave};
 ghost use Rattle.tm_world.specs.Torn.{as_read};
 ghost use Rattle.tm_memworld.specs.Faults.{one_more};
 ghost use Rattle.tm_memworld.specs.Putting.{with_script};
@@ -33,9 +32,9 @@ pub struct MemWorld {
 
 #[tactic(auto, unfolding(crate::specs::World::state, crate::specs::World::clock))]
 impl MemWorld {
-    /// An empty world without room.
+    /// An empty world without room. It takes no memory.
     pub fn new(alloc: Global) -> Result<MemWorld, Memory>
-        ensures { IfOk result (λ w. state w ≡ start) }
+        ensures { IsOkAnd result (λ w. state w ≡ start) }
     {
         Ok(MemWorld {
             devices: Devices::new(alloc),
@@ -98,7 +97,7 @@ impl MemWorld {
     /// number. What stands then is one of the pairs of images that the stop might leave.
     pub fn stop(&mut self, torn: &[u8; 4096])
         ensures state { state self.new ≡ after_stop torn.now (state self.old) }
-        ensures left { (side : Side) → IsLeft (disk side (state self.old).outside) (as_read (disk side (state self.new).outside)) }
+        ensures left { MayLeave (state self.old).outside (λ side. as_read (disk side (state self.new).outside)) }
     {
         self.devices.stop(torn);
         self.plan.clear();
@@ -156,6 +155,7 @@ impl MemWorld {
         ensures ok { OnSome result (Steps (clock self.old) (clock self.new) (attached part path.now create (now (clock self.old)))) }
         ensures stays { IfNone result (Steps (clock self.old) (clock self.new) (now (clock self.old))) }
         ensures count { IfSome result (λ n. n ≡ attached_count part (now (clock self.new))) }
+        ensures script { part ≡ Part.Script → OnSome result (IsSome ((now (clock self.old)).scripts path.now)) }
         ensures most { IfSome result (λ n. n ≤ 262144) }
         ensures other { (side : Side) → part_of side ≢ part → OnSome result (blocks_of self.new side ≡ blocks_of self.old side) }
         ensures state { state self.new ≡ used 0 0 (with_outside (now (clock self.new)) (state self.old)) }
@@ -174,6 +174,15 @@ impl MemWorld {
         }
     }
 }
+
+/// What the trait's clauses speak of is what the world shows: contents are told, what is outside now, how many
+/// blocks each side has, and the counts of faults.
+pub fn tells(world: &MemWorld)
+    ensures told { ⟦<MemWorld as World>⟧.told }
+    ensures outside { now (⟦<MemWorld as World>⟧.log world.now) ≡ (state world.now).outside }
+    ensures blocks { ⟦<MemWorld as World>⟧.blocks world.now ≡ blocks_of world.now }
+    ensures faults { ⟦<MemWorld as World>⟧.faults world.now ≡ (state world.now).faults }
+{}
 
 // The part of a side.
 fn part(side: Side) -> Part
