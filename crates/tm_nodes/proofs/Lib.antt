@@ -1,0 +1,13 @@
+mod Formats
+mod Numbers
+mod Fields
+mod Places
+mod Orders
+mod Parts
+mod LeafLemmas
+mod KindLemmas
+mod ItemLemmas
+mod NodeLemmas
+mod RowLemmas
+mod HeadLemmas
+mod Loops

@@ -1,0 +1,15 @@
+pub mod Spelled
+pub mod Answers
+pub mod Kinds
+pub mod Targets
+pub mod Attrs
+pub mod Leaves
+pub mod Items
+pub mod Nodes
+pub mod Paths
+pub mod Rows
+pub mod Headers
+pub mod Readers
+pub mod Reading
+pub mod Records
+pub mod Laws
