@@ -65,32 +65,23 @@ pub(crate) const REFUSALS: [(&str, &[&str], &str); 23] = [
     ),
     (
         NOTHING,
-        &[
-            "newvolume HD 6ba7b810-9dad-11d1-80b4-00c04fd430c8 1000",
-        ],
+        &["newvolume HD 6ba7b810-9dad-11d1-80b4-00c04fd430c8 1000"],
         "refused 19 NoMoment\n",
     ),
     // With a volume alone.
     (
         ITEMS,
-        &[
-            "tmutil startbackup --block",
-        ],
+        &["tmutil startbackup --block"],
         "refused 2 NoStore\n",
     ),
     (
         ITEMS,
-        &[
-            "newvolume HD 6ba7b810-9dad-11d1-80b4-00c04fd430c8 1000",
-        ],
+        &["newvolume HD 6ba7b810-9dad-11d1-80b4-00c04fd430c8 1000"],
         "refused 3 Already\n",
     ),
     (
         STORE,
-        &[
-            "newstore Mac",
-            "newstore PC",
-        ],
+        &["newstore Mac", "newstore PC"],
         "refused 3 Already\n",
     ),
     // A way that leads nowhere.
@@ -187,58 +178,31 @@ pub(crate) const REFUSALS: [(&str, &[&str], &str); 23] = [
     ),
     (
         SNAPSHOT,
-        &[
-            "store cat /Backups.backupdb/Mac/Latest/HD",
-        ],
+        &["store cat /Backups.backupdb/Mac/Latest/HD"],
         "refused 8 IsFolder\n",
     ),
     // A folder that holds something.
-    (
-        ITEMS,
-        &[
-            "rmdir /a",
-        ],
-        "refused 9 NotEmpty\n",
-    ),
+    (ITEMS, &["rmdir /a"], "refused 9 NotEmpty\n"),
     // A folder beneath itself.
-    (
-        ITEMS,
-        &[
-            "mv /a /a/b",
-            "mv / /new",
-        ],
-        "refused 10 IntoSelf\n",
-    ),
+    (ITEMS, &["mv /a /a/b", "mv / /new"], "refused 10 IntoSelf\n"),
     // A file of more than 16 MiB.
     (
         ITEMS,
-        &[
-            "fill /f 16777217 0",
-        ],
+        &["fill /f 16777217 0"],
         "refused 12 TooLong 16777217\n",
     ),
     // The root, with nothing in it.
-    (
-        VOLUME,
-        &[
-            "rmdir /",
-        ],
-        "refused 14 RootItem\n",
-    ),
+    (VOLUME, &["rmdir /"], "refused 14 RootItem\n"),
     // A date that is not later than the last.
     (
         SNAPSHOT,
-        &[
-            "tmutil startbackup --block",
-        ],
+        &["tmutil startbackup --block"],
         "refused 18 DateNotLater 2009-03-02-090000\n",
     ),
     // The clock goes back.
     (
         SNAPSHOT,
-        &[
-            "at 2009-03-02-085959",
-        ],
+        &["at 2009-03-02-085959"],
         "refused 20 ClockBack 2009-03-02-090000\n",
     ),
     // No snapshot is named.
@@ -264,13 +228,7 @@ pub(crate) const REFUSALS: [(&str, &[&str], &str); 23] = [
         "refused 21 NoSnapshot\n",
     ),
     // An extra attribute that the item lacks.
-    (
-        ITEMS,
-        &[
-            "rmx /f n",
-        ],
-        "refused 24 NoAttribute\n",
-    ),
+    (ITEMS, &["rmx /f n"], "refused 24 NoAttribute\n"),
     // Lines that are not built yet, before all other refusals.
     (
         NOTHING,

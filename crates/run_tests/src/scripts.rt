@@ -24,17 +24,9 @@ ok\n";
 /// A script, what it says, and how it ends.
 pub(crate) const SCRIPTS: [(&str, &str, Status); 15] = [
     // A file, a backup, and the file from the snapshot.
-    (
-        FIRST,
-        FIRST_SAYS,
-        Status::Done,
-    ),
+    (FIRST, FIRST_SAYS, Status::Done),
     // An empty script says nothing.
-    (
-        "",
-        "",
-        Status::Done,
-    ),
+    ("", "", Status::Done),
     // Blanks and notes have no reply.
     (
         "\

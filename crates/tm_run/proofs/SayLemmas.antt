@@ -35,11 +35,11 @@ prefix_more whole text rest old mid new first next is =
     let front = take first.count whole in
     let split : front ++ drop first.count whole ≡ whole = take-append-drop first.count whole in
     let same : (old.said ++ front) ++ drop first.count whole ≡ (old.said ++ front) ++ (text ++ rest) =
-        append_assoc old.said front _ ∙ ap (λ (t : List ℕ). old.said ++ t) split ∙ is ∙ ap (λ (t : List ℕ). t ++ (text ++ rest)) first.part in
+    append_assoc old.said front _ ∙ ap (λ (t : List ℕ). old.said ++ t) split ∙ is ∙ ap (λ (t : List ℕ). t ++ (text ++ rest)) first.part in
     let left : drop first.count whole ≡ text ++ rest = rest_is (old.said ++ front) _ _ same in
     let whole_is : whole ≡ front ++ (text ++ rest) = sym split ∙ ap (λ (t : List ℕ). front ++ t) left in
     let part_is : take (length front + next.count) whole ≡ front ++ take next.count text =
-        ap (take (length front + next.count)) whole_is ∙ take-append-add front (text ++ rest) next.count ∙ ap (λ (t : List ℕ). front ++ t) (take-append-le next.count text rest next.within) in
+    ap (take (length front + next.count)) whole_is ∙ take-append-add front (text ++ rest) next.count ∙ ap (λ (t : List ℕ). front ++ t) (take-append-le next.count text rest next.within) in
     record {
       count = length front + next.count;
       within = omega (arith, next.within, ap length whole_is, length-append front (text ++ rest), length-append text rest);

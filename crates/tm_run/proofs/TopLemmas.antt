@@ -20,7 +20,7 @@ pub gave : (words : List (List ℕ)) (old mid new : Outside) (status ended : Sta
 gave words old mid new status ended text reading outcome is says = record {
   text = text;
   outcome = subst (λ (s : Status). Outcome words old s text) (sym is) outcome;
-  said = record { all = says.all ∙ ap (λ (s : List ℕ). s ++ text) reading.said }
+  said = record { all = says.all ∙ ap (λ (s : List ℕ). s ++ text) reading.said };
 }
 
 pub says_a_prefix : OneOutcome → (words : List (List ℕ)) (old mid new : Outside) (status : Status) (text : List ℕ) → IsReading old mid
