@@ -1,5 +1,5 @@
 -- One outcome alone is given.
-use Rattle.std.proofs.Common.{◌≡◌, ℕ, ◌<◌, ◌≤◌, Bool, Some, Option, List, [], ◌∷◌, length, codes, refl, sym, ap, ◌∙◌, subst, arith}
+use Rattle.std.proofs.Common.{◌≡◌, ℕ, Some, List, length, refl, sym, ap, ◌∙◌, subst, arith}
 use Rattle.tm_world.specs.Outside.{Outside}
 use Rattle.tm_text.specs.declared.line.Line.{Line}
 use Rattle.tm_text.specs.Script.{IsScript, IsFirstBad}
@@ -9,7 +9,6 @@ use Rattle.tm_machine.specs.Runs.{said_of, any_refused}
 use Rattle.tm_run.specs.declared.status.Status.{Status}
 use Rattle.tm_run.specs.declared.status.Status.TheVariants as status
 use Rattle.tm_run.specs.Command.{IsCommand, IsSomeCommand}
-use Rattle.tm_run.specs.Scripts.{longest_script}
 use Rattle.tm_run.specs.Outcomes.{Outcome, usage, too_long, bad, runs, done_status, bad_line}
 
 some_command : {words : List (List ℕ)} {v s p : List ℕ} → IsCommand words v s p → IsSomeCommand words

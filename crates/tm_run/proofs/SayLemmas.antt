@@ -1,5 +1,5 @@
 -- What was said.
-use Rattle.std.proofs.Common.{◌≡◌, ℕ, ◌≤◌, List, [], ◌++◌, take, drop, length, length-append, Result, Ok, Err, OnOk, refl, sym, ap, ◌∙◌, arith, append_assoc, append-nil, ◌+◌}
+use Rattle.std.proofs.Common.{◌≡◌, ℕ, List, ◌++◌, take, drop, length, length-append, Result, Ok, Err, OnOk, sym, ap, ◌∙◌, arith, append_assoc, append-nil, ◌+◌}
 use Rattle.std.proofs.lemmas.List.{take_all, take-append-le, take-append-drop}
 use Rattle.std.proofs.Math.Seq.{take-append-add, drop-append_seam}
 use Rattle.tm_world.specs.Outside.{Outside}

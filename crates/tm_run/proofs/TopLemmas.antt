@@ -1,5 +1,5 @@
 -- What a run says is what its outcome says.
-use Rattle.std.proofs.Common.{◌≡◌, ◌≢◌, ◌⊎◌, inl, inr, ℕ, ◌<◌, ◌≤◌, List, Result, Err, ◌++◌, length, take, ap, sym, ◌∙◌, subst, refl}
+use Rattle.std.proofs.Common.{◌≡◌, ◌≢◌, ◌⊎◌, inl, inr, ℕ, ◌<◌, ◌≤◌, List, Err, ◌++◌, length, take, ap, sym, ◌∙◌, subst, refl}
 use Rattle.tm_world.specs.Outside.{Outside}
 use Rattle.tm_text.specs.Script.{IsFirstBad}
 use Rattle.tm_run.specs.declared.status.Status.{Status}

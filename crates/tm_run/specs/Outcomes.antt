@@ -1,5 +1,5 @@
 -- What a run gives where no part fails and memory is ample: its status, and what it says.
-use Rattle.std.specs.Prelude.{◌≡◌, ℕ, ◌<◌, ◌≤◌, Bool, true, false, Some, List, [], ◌∷◌, ◌++◌, length, codes}
+use Rattle.std.specs.Prelude.{◌≡◌, ℕ, ◌<◌, ◌≤◌, Bool, true, false, Some, List, ◌++◌, length, codes}
 use Rattle.std.specs.Fmt.{decimal}
 use Rattle.tm_world.specs.Outside.{Outside}
 use Rattle.tm_text.specs.declared.line.Line.{Line}

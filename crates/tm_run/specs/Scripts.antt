@@ -2,7 +2,6 @@
 use Rattle.std.specs.Prelude.{◌≡◌, ℕ, ◌<◌, ◌≤◌, List, Option, Some, None, Result, Ok, Err, length}
 use Rattle.tm_world.specs.Outside.{Outside}
 use Rattle.tm_run.specs.declared.script.ScriptError.{ScriptError}
-use Rattle.tm_run.specs.declared.script.ScriptError.TheVariants.{Fault, Memory}
 
 -- the most bytes of a script
 abbrev pub longest_script : ℕ

@@ -1,4 +1,4 @@
-use Rattle.std.proofs.Common.{◌≡◌, ◌++◌, ◌<◌, List, ℕ, drop, ap, ◌∙◌, ◌+◌, arith, length, refl}
+use Rattle.std.proofs.Common.{◌++◌, ◌<◌, List, ℕ, drop, ap, ◌∙◌, ◌+◌, arith, length, refl}
 use Rattle.tm_world.specs.Log.{now}
 use Rattle.tm_reply.specs.Replies.{reply_text}
 use Rattle.tm_machine.specs.Steps.{reply, step}

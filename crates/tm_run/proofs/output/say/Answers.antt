@@ -1,4 +1,3 @@
-use Rattle.tm_world.specs.Log.{now}
 use Rattle.tm_run.proofs.SayLemmas.{said_whole, said_part}
 use Rattle.tm_run.proofs.output.say.Goals as goal
 

@@ -1,4 +1,4 @@
-use Rattle.std.proofs.Common.{◌≡◌, ◌≤◌, ◌-◌, ◌++◌, length, vec_len}
+use Rattle.std.proofs.Common.{◌≡◌, ◌≤◌, ◌-◌, vec_len}
 use Rattle.tm_world.specs.Log.{now}
 use Rattle.tm_world.specs.Faults.{NeverLess}
 use Rattle.tm_run.proofs.ScriptLemmas.{HasRead}

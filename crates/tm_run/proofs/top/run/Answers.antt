@@ -1,8 +1,5 @@
-use Rattle.std.proofs.Common.{◌≡◌, ℕ, List, Err, refl}
-use Rattle.tm_world.specs.Log.{now}
-use Rattle.tm_run.specs.declared.status.Status.{Status}
 use Rattle.tm_run.specs.Command.{texts}
-use Rattle.tm_run.specs.Outcomes.{Outcome, usage, runs}
+use Rattle.tm_run.specs.Outcomes.{usage, runs}
 use Rattle.tm_run.proofs.TopLemmas.{same_outside, gave, says_a_prefix, no_fault, ends_well, ends_as, of_long, of_bad}
 use Rattle.tm_run.proofs.top.run.Goals as goal
 

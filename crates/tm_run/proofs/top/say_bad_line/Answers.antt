@@ -1,4 +1,4 @@
-use Rattle.std.proofs.Common.{List, ℕ, subst, ◌∙◌, ◌≡◌, string_bytes}
+use Rattle.std.proofs.Common.{List, ℕ, subst, ◌∙◌}
 use Rattle.tm_world.specs.Log.{now}
 use Rattle.tm_run.specs.Ends.{SaysPrefix}
 use Rattle.tm_run.specs.Outcomes.{bad_line}
