@@ -1,0 +1,7 @@
+//! Gates, chains and blobs over images in memory, compared with bytes and answers that were worked out by hand.
+#![tactic(auto)]
+
+#[cfg(test)]
+mod gate;
+#[cfg(test)]
+mod volume;
