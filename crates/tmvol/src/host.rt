@@ -111,7 +111,8 @@ impl<'a, R: Files + Print> World for HostWorld<'a, R> {
 
     ghost log = { λ _. untold };
 
-    ghost blocks = { λ _ _. 0 };
+    // The most that an image has: no image is kept, and a call on any block of one fails.
+    ghost blocks = { λ _ _. 262144 };
 
     ghost faults = { λ w. count_of w.faults };
 
