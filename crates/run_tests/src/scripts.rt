@@ -22,7 +22,7 @@ bytes 5 hello\n\
 ok\n";
 
 /// A script, what it says, and how it ends.
-pub(crate) const SCRIPTS: [(&str, &str, Status); 15] = [
+pub(crate) const SCRIPTS: [(&str, &str, Status); 17] = [
     // A file, a backup, and the file from the snapshot.
     (FIRST, FIRST_SAYS, Status::Done),
     // An empty script says nothing.
@@ -505,6 +505,66 @@ bytes 5 three\n\
 ok\n\
 target x\n\
 ok\n",
+        Status::DoneRefused,
+    ),
+    // An item has 16 extra attributes, and a value of one may still change.
+    (
+        "\
+at 2009-03-02-090000\n\
+newvolume HD 6ba7b810-9dad-11d1-80b4-00c04fd430c8 1000\n\
+setx / n00 v\n\
+setx / n01 v\n\
+setx / n02 v\n\
+setx / n03 v\n\
+setx / n04 v\n\
+setx / n05 v\n\
+setx / n06 v\n\
+setx / n07 v\n\
+setx / n08 v\n\
+setx / n09 v\n\
+setx / n10 v\n\
+setx / n11 v\n\
+setx / n12 v\n\
+setx / n13 v\n\
+setx / n14 v\n\
+setx / n15 v\n\
+setx / n15 w\n\
+setx / n16 v\n",
+        "\
+ok\n\
+ok\n\
+ok\n\
+ok\n\
+ok\n\
+ok\n\
+ok\n\
+ok\n\
+ok\n\
+ok\n\
+ok\n\
+ok\n\
+ok\n\
+ok\n\
+ok\n\
+ok\n\
+ok\n\
+ok\n\
+ok\n\
+refused 13 TooMany 17\n",
+        Status::DoneRefused,
+    ),
+    // A file has 16 MiB.
+    (
+        "\
+at 2009-03-02-090000\n\
+newvolume HD 6ba7b810-9dad-11d1-80b4-00c04fd430c8 1000\n\
+fill /f 16777216 0\n\
+append /f x\n",
+        "\
+ok\n\
+ok\n\
+ok\n\
+refused 12 TooLong 16777217\n",
         Status::DoneRefused,
     ),
 ];

@@ -2,6 +2,7 @@
 use crate::refusals::REFUSALS;
 use crate::scripts::{FIRST, FIRST_SAYS, SCRIPTS};
 use std::alloc::Global;
+use std::ops::Range;
 use std::test::Fail;
 use tm_memworld::MemWorld;
 use tm_run::{Status, run};
@@ -16,7 +17,7 @@ const USAGE: &str = "usage: tmvol --volume PATH --store PATH --script PATH [--cr
 fn world_with(alloc: Global, script: &[u8]) -> Result<MemWorld, Fail> {
     let mut world = MemWorld::new(alloc)?;
     world.put_script("p", script)?;
-    world.room(100_000, 0, 100_000)?;
+    world.room(100_000, 0, 1_000_000)?;
     Ok(world)
 }
 
@@ -141,5 +142,58 @@ fn a_script_that_does_not_stand_is_a_fault(rt: HostRuntime) -> Result<(), Fail> 
     let mut world = MemWorld::new(rt.alloc())?;
     world.room(100, 0, 100)?;
     assert_eq!(rt; run(rt.alloc(), &command, &mut world), Status::ScriptFault);
+    Ok(())
+}
+
+/// Puts lines at the end of a script, of which each names its number.
+fn put_lines(
+    alloc: Global,
+    script: &mut String,
+    numbers: Range<u32>,
+    before: &str,
+    after: &str,
+) -> Result<(), Fail> {
+    for number in numbers {
+        let line = format!(in alloc; "{before}{number}{after}\n")?;
+        script.push_str(&line)?;
+    }
+    Ok(())
+}
+
+#[test]
+fn a_volume_has_65536_items(rt: HostRuntime) -> Result<(), Fail> {
+    let mut script = "at 2009-03-02-090000\n\
+newvolume HD 6ba7b810-9dad-11d1-80b4-00c04fd430c8 1000\n"
+        .to_string(rt.alloc())?;
+    put_lines(rt.alloc(), &mut script, 1..65_536, "ln /", " x")?;
+    script.push_str("mkdir /a\nwrite /a x\nappend /a x\nfill /a 1 1\nln /a x\n")?;
+    let mut world = world_with(rt.alloc(), script.as_bytes())?;
+    let ended = run(rt.alloc(), &words(rt.alloc(), &COMMAND)?, &mut world);
+    let said = str::from_utf8(world.said())?;
+    let last = "ok\nrefused 13 TooMany 65537\nrefused 13 TooMany 65537\n\
+refused 13 TooMany 65537\nrefused 13 TooMany 65537\nrefused 13 TooMany 65537\n";
+    assert!(rt; said.ends_with(last));
+    assert_eq!(rt; ended, Status::DoneRefused);
+    Ok(())
+}
+
+#[test]
+fn a_store_has_1024_snapshots(rt: HostRuntime) -> Result<(), Fail> {
+    let mut script = "at 2000-01-01-000000\n\
+newvolume HD 6ba7b810-9dad-11d1-80b4-00c04fd430c8 1000\nnewstore Mac\n"
+        .to_string(rt.alloc())?;
+    put_lines(
+        rt.alloc(),
+        &mut script,
+        2001..3026,
+        "at ",
+        "-01-01-000000\ntmutil startbackup --block",
+    )?;
+    let mut world = world_with(rt.alloc(), script.as_bytes())?;
+    let ended = run(rt.alloc(), &words(rt.alloc(), &COMMAND)?, &mut world);
+    let said = str::from_utf8(world.said())?;
+    let last = "finished 3024-01-01-000000 walked 1\nok\nok\nrefused 13 TooMany 1025\n";
+    assert!(rt; said.ends_with(last));
+    assert_eq!(rt; ended, Status::DoneRefused);
     Ok(())
 }
