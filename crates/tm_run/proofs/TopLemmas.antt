@@ -1,5 +1,5 @@
 -- What a run says is what its outcome says.
-use Rattle.std.proofs.Common.{◌≡◌, ◌≢◌, ◌⊎◌, inl, inr, ℕ, ◌<◌, ◌≤◌, List, Err, ◌++◌, length, take, ap, sym, ◌∙◌, subst, refl}
+use Rattle.std.proofs.Common.{◌≡◌, ◌≢◌, ◌⊎◌, inl, inr, ℕ, ◌<◌, ◌≤◌, List, Option, Err, ◌++◌, length, take, ap, sym, ◌∙◌, subst, refl}
 use Rattle.tm_world.specs.Outside.{Outside}
 use Rattle.tm_text.specs.Script.{IsFirstBad}
 use Rattle.tm_run.specs.declared.status.Status.{Status}
@@ -45,14 +45,14 @@ ends_as wanted ended (inr (inl is)) whole = absurd (subst IsWhole is whole)
 ends_as wanted ended (inr (inr is)) whole = absurd (subst IsWhole is whole)
 
 -- the outcomes of a script that gave no lines
-pub of_long : (words : List (List ℕ)) (old : Outside) (v s p : List ℕ) (why : ScriptEnd) → IsCommand words v s p → why ≡ TooLong
+pub of_long : (words : List (List ℕ)) (old : Outside) (v s p : List ℕ) (create : Option ℕ) (why : ScriptEnd) → IsCommand words v s p create → why ≡ TooLong
     → ReadsLines old p (Err why) → Outcome words old (status.Script 0) too_long_line
-of_long words old v s p why is because reads =
+of_long words old v s p create why is because reads =
     let long : StandsWith old p (λ script. longest_script < length script) = subst (λ (e : ScriptEnd). ReadsLines old p (Err e)) because reads in
     too_long is long.stands long.has
 
-pub of_bad : (words : List (List ℕ)) (old : Outside) (v s p : List ℕ) (why : ScriptEnd) (n : ℕ) → IsCommand words v s p → why ≡ BadLine n
+pub of_bad : (words : List (List ℕ)) (old : Outside) (v s p : List ℕ) (create : Option ℕ) (why : ScriptEnd) (n : ℕ) → IsCommand words v s p create → why ≡ BadLine n
     → ReadsLines old p (Err why) → Outcome words old (status.Script n) (bad_line n)
-of_bad words old v s p why n is because reads =
+of_bad words old v s p create why n is because reads =
     let worse : StandsWith old p (λ script. (length script ≤ longest_script) × IsFirstBad script n) = subst (λ (e : ScriptEnd). ReadsLines old p (Err e)) because reads in
     bad is worse.stands worse.has.0 worse.has.1

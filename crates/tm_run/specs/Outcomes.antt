@@ -1,5 +1,5 @@
 -- What a run gives where no part fails and memory is ample: its status, and what it says.
-use Rattle.std.specs.Prelude.{◌≡◌, ℕ, ◌<◌, ◌≤◌, Bool, true, false, Some, List, ◌++◌, length, codes}
+use Rattle.std.specs.Prelude.{◌≡◌, ℕ, ◌<◌, ◌≤◌, Bool, true, false, Option, Some, List, ◌++◌, length, codes}
 use Rattle.std.specs.Fmt.{decimal}
 use Rattle.tm_world.specs.Outside.{Outside}
 use Rattle.tm_text.specs.declared.line.Line.{Line}
@@ -30,13 +30,13 @@ pub data Outcome (words : List (List ℕ)) (outside : Outside) : Status → List
   -- the words are not the command
   usage : (IsSomeCommand words → ⊥) → Outcome words outside status.Usage usage_line
   -- the script has more bytes than a script may have
-  too_long : {volume store path script : List ℕ} → IsCommand words volume store path → outside.scripts path ≡ Some script
+  too_long : {volume store path script : List ℕ} {create : Option ℕ} → IsCommand words volume store path create → outside.scripts path ≡ Some script
       → longest_script < length script → Outcome words outside (status.Script 0) too_long_line
   -- a line of the script is outside the grammar, and this is the first
-  bad : {volume store path script : List ℕ} {n : ℕ} → IsCommand words volume store path → outside.scripts path ≡ Some script
+  bad : {volume store path script : List ℕ} {create : Option ℕ} {n : ℕ} → IsCommand words volume store path create → outside.scripts path ≡ Some script
       → length script ≤ longest_script → IsFirstBad script n → Outcome words outside (status.Script n) (bad_line n)
   -- the script is these lines, and the plain machine replies to them from the blank state
-  runs : {volume store path script : List ℕ} {lines : List Line} → IsCommand words volume store path → outside.scripts path ≡ Some script
+  runs : {volume store path script : List ℕ} {create : Option ℕ} {lines : List Line} → IsCommand words volume store path create → outside.scripts path ≡ Some script
       → length script ≤ longest_script → IsScript script lines
       → Outcome words outside (done_status (any_refused blank lines)) (said_of blank lines)
 

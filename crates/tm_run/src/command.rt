@@ -1,16 +1,22 @@
 //! The words of the command.
-ghost use Rattle.std.specs.Prelude.{◌≡◌, ◌∷◌, [], ℕ, List, map, string_bytes, IfSome, IfNone};
-ghost use Rattle.tm_run.specs.Command.{IsCommand, IsSomeCommand, texts};
+ghost use Rattle.std.specs.Prelude.{◌≡◌, ◌≤◌, ◌∷◌, [], ℕ, List, map, string_bytes, IfSome, IfNone};
+ghost use Rattle.std.specs.Option.{ForSome};
+ghost use Rattle.tm_run.specs.Command.{IsBlocks, IsCreateOption, IsCommand, IsSomeCommand, texts, most_blocks};
 
-/// The paths that a command names.
+/// The most blocks of an image.
+const MOST_BLOCKS: u32 = 262_144;
+
+/// What a command names.
 #[derive(Clone, Copy, Debug, PartialEq, Eq)]
 pub(crate) struct Command<'a> {
-    /// The image of the volume.
+    /// The path of the image of the volume.
     pub volume: &'a str,
-    /// The image of the store.
+    /// The path of the image of the store.
     pub store: &'a str,
-    /// The script.
+    /// The path of the script.
     pub script: &'a str,
+    /// How many blocks an image gets that is made where none stands, from 1 to 262,144.
+    pub create: Option<u32>,
 }
 
 // The word after an option at the front, and the words that follow it.
@@ -26,19 +32,43 @@ fn option_value<'a>(words: &'a [String], option: &str) -> Option<(&'a str, &'a [
     Some((value.as_str(), rest))
 }
 
+// The number of blocks that a word writes.
+fn read_blocks(word: &str) -> Option<u32>
+    ensures some { IfSome result (IsBlocks word.now) }
+    ensures none { IfNone result ((blocks : ℕ) → IsBlocks word.now blocks → ⊥) }
+{
+    match word.parse::<u32>() {
+        Ok(blocks) if (1..=MOST_BLOCKS).contains(&blocks) => Some(blocks),
+        _ => None,
+    }
+}
+
+// The number of blocks of the option that may end the command.
+fn read_create(words: &[String]) -> Option<u32>
+    ensures some { IfSome result (IsCreateOption (texts words.now)) }
+    ensures none { IfNone result ((blocks : ℕ) → IsCreateOption (texts words.now) blocks → ⊥) }
+{
+    let (word, rest) = option_value(words, "--create")?;
+    if !rest.is_empty() {
+        return None;
+    }
+    read_blocks(word)
+}
+
 /// Reads the words after the program's name; none exactly where they are not the command.
 pub(crate) fn read_words(words: &[String]) -> Option<Command<'_>>
-    ensures some { IfSome result (λ c. IsCommand (texts words.now) c.volume.now c.store.now c.script.now) }
+    ensures some { IfSome result (λ c. IsCommand (texts words.now) c.volume.now c.store.now c.script.now c.create) }
     ensures none { IfNone result (IsSomeCommand (texts words.now) → ⊥) }
+    ensures create { IfSome result (λ c. ForSome c.create (λ blocks. (1 ≤ blocks) × (blocks ≤ most_blocks))) }
 {
     let (volume, words) = option_value(words, "--volume")?;
     let (store, words) = option_value(words, "--store")?;
-    let Some((script, words)) = option_value(words, "--script") else {
-        return None;
+    let (script, words) = option_value(words, "--script")?;
+    let create = if words.is_empty() {
+        None
+    } else {
+        Some(read_create(words)?)
     };
-    if !words.is_empty() {
-        return None;
-    }
     if volume == store {
         return None;
     }
@@ -46,5 +76,6 @@ pub(crate) fn read_words(words: &[String]) -> Option<Command<'_>>
         volume,
         store,
         script,
+        create,
     })
 }

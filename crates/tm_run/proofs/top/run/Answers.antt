@@ -27,24 +27,24 @@ returns-in-Ok-clause-prefix g c told =
 pub returns-in-Err-TooLong-clause-outcome : goal.returns-in-Err-TooLong-clause-outcome
 returns-in-Err-TooLong-clause-outcome g c told whole =
     gave _ _ _ _ _ _ _ (c.read_lines.ensures.reading told)
-    (of_long _ _ _ _ _ _ c.in-Some.ensures.some c.in-Err-TooLong.field-0-is (c.in-Err-TooLong.ensures.lines told))
+    (of_long _ _ _ _ _ _ _ c.in-Some.ensures.some c.in-Err-TooLong.field-0-is (c.in-Err-TooLong.ensures.lines told))
     (ends_well _ _ c.say_last-in-Err-TooLong.ensures.status whole) (c.say_last-in-Err-TooLong.ensures.said told (no_fault _ whole))
 
 pub returns-in-Err-TooLong-clause-prefix : goal.returns-in-Err-TooLong-clause-prefix
 returns-in-Err-TooLong-clause-prefix g c told =
     says_a_prefix c.one_outcome.ensures _ _ _ _ _ _ (c.read_lines.ensures.reading told)
-    (of_long _ _ _ _ _ _ c.in-Some.ensures.some c.in-Err-TooLong.field-0-is (c.in-Err-TooLong.ensures.lines told))
+    (of_long _ _ _ _ _ _ _ c.in-Some.ensures.some c.in-Err-TooLong.field-0-is (c.in-Err-TooLong.ensures.lines told))
     (c.say_last-in-Err-TooLong.ensures.cut told)
 
 pub returns-in-Err-BadLine-clause-outcome : goal.returns-in-Err-BadLine-clause-outcome
 returns-in-Err-BadLine-clause-outcome g c told whole =
     let is = ends_as _ _ c.say_bad_line.ensures.status whole in
     gave _ _ _ _ _ _ _ (c.read_lines.ensures.reading told)
-    (of_bad _ _ _ _ _ _ _ c.in-Some.ensures.some c.in-Err-BadLine.field-0-is (c.in-Err-BadLine.ensures.lines told))
+    (of_bad _ _ _ _ _ _ _ _ c.in-Some.ensures.some c.in-Err-BadLine.field-0-is (c.in-Err-BadLine.ensures.lines told))
     is (c.say_bad_line.ensures.said told is)
 
 pub returns-in-Err-BadLine-clause-prefix : goal.returns-in-Err-BadLine-clause-prefix
 returns-in-Err-BadLine-clause-prefix g c told =
     says_a_prefix c.one_outcome.ensures _ _ _ _ _ _ (c.read_lines.ensures.reading told)
-    (of_bad _ _ _ _ _ _ _ c.in-Some.ensures.some c.in-Err-BadLine.field-0-is (c.in-Err-BadLine.ensures.lines told))
+    (of_bad _ _ _ _ _ _ _ _ c.in-Some.ensures.some c.in-Err-BadLine.field-0-is (c.in-Err-BadLine.ensures.lines told))
     (c.say_bad_line.ensures.cut told)
