@@ -1,3 +1,1 @@
-pub mod FaultCounts
 pub mod Endings
-pub mod Untold

@@ -3,9 +3,6 @@
 
 mod arguments;
 mod ending;
-mod faults;
-mod host;
-mod streams;
 
 ghost use Rattle.std.specs.Prelude.{◌≡◌, ◌⊎◌};
 ghost use Rattle.tm_run.specs.Command.{texts, IsSomeCommand};
@@ -13,18 +10,17 @@ ghost use Rattle.tm_run.specs.declared.status.Status.{Status};
 
 use crate::arguments::{ArgumentsError, after_name, arguments};
 use crate::ending::exit_code;
-use crate::host::HostWorld;
 use std::process::ExitCode;
 use std::rt::{Env, Files};
+use tm_fileworld::FileWorld;
 use tm_run::{Status, run};
 
-/// Runs the command that the words after the program's name make, over the script's file and
-/// standard output.
+/// Runs the command that the words after the program's name make, over files and standard output.
 fn run_words<R: Files + Print + AllocGlobal>(rt: &R, words: &[String]) -> Status
     ensures usage { result ≡ Status.Usage → IsSomeCommand (texts words.now) → ⊥ }
     ensures not_command { (IsSomeCommand (texts words.now) → ⊥) → (result ≡ Status.Usage) ⊎ (result ≡ Status.OutFault) }
 {
-    run(rt.alloc(), words, &mut HostWorld::new(rt))
+    run(rt.alloc(), words, &mut FileWorld::new(rt))
 }
 
 /// Runs the command that the system's words make.

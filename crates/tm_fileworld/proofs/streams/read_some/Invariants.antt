@@ -1,7 +1,7 @@
 -- The slice keeps its length, and an interrupted read consumes nothing.
 use Rattle.std.proofs.Common.{◌≡◌, length}
 use Rattle.std.specs.Io.KnownBytes.{Keeps}
-use Rattle.tmvol.proofs.streams.read_some.Given as goal
+use Rattle.tm_fileworld.proofs.streams.read_some.Given as goal
 
 abbrev pub invariant-loop : goal.invariant-loop
 invariant-loop g l = (length l.into ≡ length l.initial.into) × Keeps (g.F.Read.remaining l.initial.file) (g.F.Read.remaining l.file)

@@ -1,0 +1,6 @@
+pub mod Faults
+pub mod Untold
+pub mod Places
+pub mod Blocks
+pub mod Images
+pub mod World
