@@ -1,0 +1,7 @@
+//! Items by number, each with the number of its folder and its name there, and the tree that they
+//! are (`docs/DEFINITIONS.md`, "Numbered items").
+#![tactic(auto)]
+
+mod place;
+
+pub use place::Place;
