@@ -1,5 +1,5 @@
 -- Numbered items after a change of them.
-use Rattle.std.specs.Prelude.{◌≡◌, ℕ, ◌+◌, ◌≤◌, ◌<◌, ◌==◌, true, false, is_some, if◌then◌else◌, Option, Some, None, List, ◌∷◌, [], ◌++◌, length}
+use Rattle.std.specs.Prelude.{◌≡◌, ℕ, ◌+◌, ◌≤◌, ◌==◌, true, false, is_some, if◌then◌else◌, Option, Some, None, ◌++◌, length}
 use Rattle.tm_base.specs.Paths.{Names, parent_of, is_root, is_prefix}
 use Rattle.tm_tree.specs.declared.item.Item.{Item}
 use Rattle.tm_tree.specs.Items.{dated, is_folder, is_excluded}

@@ -3,7 +3,7 @@ use Rattle.std.specs.Prelude.{◌≡◌, ℕ, ◌<◌, if◌then◌else◌, Opti
 use Rattle.std.specs.Map.{lookup}
 use Rattle.std.specs.BTreeMap.{is_at}
 use Rattle.tm_items.specs.declared.place.Place.{Place}
-use Rattle.tm_items.specs.Placings.{Placed, Items, IsChild}
+use Rattle.tm_items.specs.Placings.{Items, IsChild}
 use Rattle.tm_items.specs.Places.{place_cmp}
 use Rattle.tm_items.specs.Rules.{Keeps}
 

@@ -1,0 +1,3 @@
+pub mod Walking
+pub mod Reading
+pub mod Avoiding
