@@ -1,3 +1,5 @@
 pub mod Walking
 pub mod Reading
 pub mod Avoiding
+pub mod Finding
+pub mod Indexing
