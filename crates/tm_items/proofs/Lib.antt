@@ -3,3 +3,5 @@ pub mod Reading
 pub mod Avoiding
 pub mod Finding
 pub mod Indexing
+pub mod Loading
+pub mod Counting

@@ -2,6 +2,11 @@
 //! are (`docs/DEFINITIONS.md`, "Numbered items").
 #![tactic(auto)]
 
+mod laws;
 mod place;
 
+pub use laws::{
+    failed_tests_break_rules, index_follows, index_tells, index_walks, items_load,
+    items_read_as_one_tree, sound_items_read, taken_numbers_count,
+};
 pub use place::Place;
