@@ -5,13 +5,12 @@ use Rattle.std.specs.Bool.{one_answer}
 use Rattle.std.specs.BTreeMap.{is_at}
 use Rattle.std.specs.Cmp.{ranks}
 use Rattle.std.specs.List.Sorted.{IsStrictlySortedBy}
-use Rattle.std.specs.Map.{keys_of}
 use Rattle.std.specs.Ordering.{nat_cmp, MatchOrdering}
 use Rattle.std.specs.declared.cmp.Ordering.TheVariants.{Less}
 use Rattle.tm_items.specs.Placings.{Placed, Items}
 use Rattle.tm_items.specs.Changes.{with_item, without_item}
 use Rattle.tm_items.specs.Computed.{Placings, items_of, AreNumbered}
-use Rattle.tm_items.specs.Laws.{AllTaken}
+use Rattle.tm_items.specs.Laws.{AllTaken, FewNumbers}
 use Rattle.tm_items.proofs.Reading.{number_decides, above, among_from, some_of}
 
 truths : {P : Type 0} → false ≡ true → P
@@ -76,3 +75,27 @@ taken_from (row ∷ rest) a (suc n) sorted all =
 
 pub all_taken : AllTaken
 all_taken placings n sorted all = taken_from placings 1 n sorted (λ m low high. all m low (omega arith))
+
+there_too : (b : Bool) (x : Placed) (o : Option Placed) → is_some o ≡ true → is_some (cond b (Some x) o) ≡ true
+there_too true x o h = refl
+there_too false x o h = h
+
+here : (row : ℕ × Placed) (rest : Placings) → is_some (items_of (row ∷ rest) row.0) ≡ true
+here row rest = rw ((number_decides row.0 row.0).1 refl) refl
+
+-- where all numbers are from a to below b, they are at most as many as there are between
+pub few_from : (placings : Placings) (a b : ℕ) → a ≤ b → AreNumbered placings → ((m : ℕ) → is_some (items_of placings m) ≡ true → (a ≤ m) × (m < b)) → a + length placings ≤ b
+unfolding IsStrictlySortedBy
+few_from [] a b low sorted within = omega arith
+few_from (row ∷ rest) a b low sorted within =
+    let h = within row.0 (here row rest) in
+    let more : row.0 + 1 + length rest ≤ b = few_from rest (row.0 + 1) b (omega (arith, h.1)) sorted.1 (λ m there.
+    let x = some_of (items_of rest m) there in
+    let past = in_rest row rest sorted m x.0 x.1 in
+    (omega arith, (within m (there_too (is_at (nat_cmp m) row.0) row.1 (items_of rest m) there)).1)) in
+    omega (arith, h.0)
+
+pub few_numbers : FewNumbers
+few_numbers placings n sorted within =
+    let l : 1 + length placings ≤ n + 1 = few_from placings 1 (n + 1) (omega arith) sorted (λ m there. let h = within m there in (h.0, omega (arith, h.1))) in
+    omega arith

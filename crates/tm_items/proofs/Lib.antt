@@ -5,3 +5,4 @@ pub mod Finding
 pub mod Indexing
 pub mod Loading
 pub mod Counting
+pub mod Ranges

@@ -5,7 +5,7 @@ use Rattle.tm_tree.specs.Items.{is_folder, is_excluded}
 use Rattle.tm_items.specs.Placings.{Placed, Items}
 use Rattle.tm_items.specs.Rules.{IsPlaced, IsRoot, RootStands, Keeps, is_root_placed, climbs}
 use Rattle.tm_items.specs.Places.{at_name, place_of}
-use Rattle.tm_items.specs.Index.{Numbers, IsChildAt, IsLoaded, SetsAt}
+use Rattle.tm_items.specs.Index.{Numbers, IsChildAt, IsLoaded}
 use Rattle.tm_items.specs.Laws.{LoadStarts, LoadSkips, LoadTakes, LoadEnds, RootBreaks, FolderBreaks, DepthBreaks, NameBreaks, PlaceBreaks}
 use Rattle.tm_items.proofs.Avoiding.{number_is}
 use Rattle.tm_items.proofs.Indexing.{which, hit, past, not_so, same_place}
@@ -201,13 +201,14 @@ load_takes items n x old new loaded two is folder near named free sets = record 
 -- ---- at the end
 
 pub load_ends : LoadEnds
-load_ends items n numbers loaded two above =
-    (λ m. elim (nat_lt m n) as (λ b. nat_lt m n ≡ b → Keeps items m) [
-      | true ↦ λ low. loaded.below m (grind (arith, nat_tests))
-      | false ↦ λ high. let up : n ≤ m = grind (arith, nat_tests) in
-          record { root = λ one. absurd (omega arith); placed = λ x is out. none_some (sym (above m up) ∙ is) }
-    ] refl,
-    record { told = loaded.index_is.told; known = λ a k name c. loaded.index_is.known a k name (in_range k c.placed c.is) c })
+load_ends items n numbers loaded two above = (
+  λ m. elim (nat_lt m n) as (λ b. nat_lt m n ≡ b → Keeps items m) [
+    | true ↦ λ low. loaded.below m (grind (arith, nat_tests))
+    | false ↦ λ high. let up : n ≤ m = grind (arith, nat_tests) in
+        record { root = λ one. absurd (omega arith); placed = λ x is out. none_some (sym (above m up) ∙ is) }
+  ] refl,
+  record { told = loaded.index_is.told; known = λ a k name c. loaded.index_is.known a k name (in_range k c.placed c.is) c },
+)
   where
     in_range : (k : ℕ) (x : Placed) → items k ≡ Some x → k < n
     in_range k x is = elim (nat_lt k n) as (λ b. nat_lt k n ≡ b → k < n) [

@@ -2,10 +2,36 @@
 ghost use Rattle.tm_items.specs.Placings.{OneTree};
 ghost use Rattle.tm_items.specs.Computed.{SoundReads};
 ghost use Rattle.tm_items.specs.Laws.{
-    WayStarts, WayStands, WayGoesOn, WayMisses, WayIsBlocked, WayEnds, IndexHas, IndexLeads,
-    OwnPlace, NothingIn, NothingInLeaf, IndexPlaces, IndexRemoves, IndexMoves, IndexReplaces,
-    IndexDates, SetIsUndone, LoadStarts, LoadSkips, LoadTakes, LoadEnds, RootBreaks, FolderBreaks,
-    DepthBreaks, NameBreaks, PlaceBreaks, AllTaken,
+  WayStarts,
+  WayStands,
+  WayGoesOn,
+  WayMisses,
+  WayIsBlocked,
+  WayEnds,
+  WalkFinds,
+  IndexHas,
+  IndexLeads,
+  OwnPlace,
+  NothingIn,
+  EmptyRange,
+  NothingInLeaf,
+  IndexPlaces,
+  IndexRemoves,
+  IndexMoves,
+  IndexReplaces,
+  IndexDates,
+  SetIsUndone,
+  LoadStarts,
+  LoadSkips,
+  LoadTakes,
+  LoadEnds,
+  RootBreaks,
+  FolderBreaks,
+  DepthBreaks,
+  NameBreaks,
+  PlaceBreaks,
+  AllTaken,
+  FewNumbers,
 };
 
 /// Items read as at most one tree.
@@ -26,6 +52,7 @@ pub fn index_walks()
     ensures misses { WayMisses }
     ensures blocked { WayIsBlocked }
     ensures ends { WayEnds }
+    ensures finds { WalkFinds }
 {}
 
 /// What the index tells of paths, and which items have nothing in them.
@@ -34,6 +61,7 @@ pub fn index_tells()
     ensures leads { IndexLeads }
     ensures place { OwnPlace }
     ensures empty { NothingIn }
+    ensures range { EmptyRange }
     ensures leaf { NothingInLeaf }
 {}
 
@@ -64,7 +92,9 @@ pub fn failed_tests_break_rules()
     ensures place { PlaceBreaks }
 {}
 
-/// Where each number from 1 on is taken, there are as many items.
-pub fn taken_numbers_count()
-    ensures { AllTaken }
+/// How many items there are: as many as the numbers from 1 on, where all those are taken, and no
+/// more, where no others are.
+pub fn numbers_count()
+    ensures taken { AllTaken }
+    ensures few { FewNumbers }
 {}

@@ -7,6 +7,6 @@ mod place;
 
 pub use laws::{
     failed_tests_break_rules, index_follows, index_tells, index_walks, items_load,
-    items_read_as_one_tree, sound_items_read, taken_numbers_count,
+    items_read_as_one_tree, numbers_count, sound_items_read,
 };
 pub use place::Place;

@@ -1,4 +1,4 @@
-use Rattle.tm_items.proofs.Finding.{way_starts, way_stands, way_goes_on, way_misses, way_is_blocked, way_ends}
+use Rattle.tm_items.proofs.Finding.{way_starts, way_stands, way_goes_on, way_misses, way_is_blocked, way_ends, walk_finds}
 use Rattle.tm_items.proofs.laws.index_walks.Goals as goal
 
 pub returns-clause-starts : goal.returns-clause-starts
@@ -18,3 +18,6 @@ returns-clause-blocked c = way_is_blocked
 
 pub returns-clause-ends : goal.returns-clause-ends
 returns-clause-ends c = way_ends
+
+pub returns-clause-finds : goal.returns-clause-finds
+returns-clause-finds c = walk_finds
