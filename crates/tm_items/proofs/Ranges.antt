@@ -1,5 +1,5 @@
 -- The places of a folder in the index.
-use Rattle.std.proofs.Common.{◌≡◌, ℕ, ◌+◌, ◌<◌, Bool, true, List, refl, sym, ap, ◌∙◌, subst, None, arith}
+use Rattle.std.proofs.Common.{◌≡◌, ℕ, ◌+◌, ◌<◌, Bool, true, List, [], ◌∷◌, slice_get, refl, sym, ap, ◌∙◌, subst, Some, None, arith}
 use Rattle.std.proofs.lemmas.Map.Entries.{lookup-filter-keys}
 use Rattle.std.specs.BTreeMap.{is_at}
 use Rattle.std.specs.BTreeMap.Range.{range_contains}
@@ -36,3 +36,10 @@ range_looks index n name = lookup-filter-keys (is_at (place_cmp (at_name n name)
 
 pub empty_range : EmptyRange
 empty_range index n none name = sym (range_looks index n name) ∙ ap (λ (es : List (Place × ℕ)). numbers_of es (at_name n name)) none
+
+pub none_first : (es : List (Place × ℕ)) → slice_get es 0 ≡ None → es ≡ []
+none_first [] h = refl
+none_first (e ∷ es) h = some_none h
+  where
+    some_none : {e : Place × ℕ} {es : List (Place × ℕ)} → Some e ≡ None → e ∷ es ≡ []
+    some_none h = cc

@@ -83,14 +83,17 @@ NothingInLeaf = (items : Items) (n : ℕ) → IsSound items → is_folder_placed
 
 -- ---- the index after a change
 
+-- a new item is set at its place
 abbrev pub IndexPlaces : Type 0
 IndexPlaces = (items : Items) (t : Tree) (p : Names) (n k moment : ℕ) (e : Item) (old new : Numbers) → Are items t → CanPlace items t p n k
     → IsIndex items old → SetsAt (place_in k p) (Some n) old new → IsIndex (placed_items items p n k moment e) new
 
+-- the place of a removed item is taken out
 abbrev pub IndexRemoves : Type 0
 IndexRemoves = (items : Items) (t : Tree) (p : Names) (n k moment : ℕ) (old new : Numbers) → Are items t → CanRemove items t p n k
     → IsIndex items old → SetsAt (place_in k p) None old new → IsIndex (removed_items items n k moment) new
 
+-- a moved item is set at its new place, and the old one is taken out
 abbrev pub IndexMoves : Type 0
 IndexMoves = (items : Items) (t : Tree) (a b : Names) (n j k : ℕ) (x : Placed) (moment : ℕ) (old between new : Numbers) → Are items t
     → CanMove items t a b n j k x → IsIndex items old → SetsAt (place_in k b) (Some n) old between
@@ -116,6 +119,7 @@ SetIsUndone = (place : Place) (n : ℕ) (old between new : Numbers) → old plac
 abbrev pub LoadStarts : Type 0
 LoadStarts = (items : Items) → items 0 ≡ None → is_root_placed (items 1) ≡ true → IsLoaded items 2 (λ place. None)
 
+-- a number without an item is passed over
 abbrev pub LoadSkips : Type 0
 LoadSkips = (items : Items) (n : ℕ) (numbers : Numbers) → IsLoaded items n numbers → 2 ≤ n → items n ≡ None → IsLoaded items (n + 1) numbers
 
@@ -123,7 +127,7 @@ LoadSkips = (items : Items) (n : ℕ) (numbers : Numbers) → IsLoaded items n n
 abbrev pub LoadTakes : Type 0
 LoadTakes = (items : Items) (n : ℕ) (x : Placed) (old new : Numbers) → IsLoaded items n old → 2 ≤ n → items n ≡ Some x
     → is_folder_placed (items x.parent) ≡ true → climbs 64 items n ≡ true → is_some x.name ≡ true
-    → old (place_of x) ≡ None
+    → is_some (old (place_of x)) ≡ false
     → SetsAt (place_of x) (Some n) old new → IsLoaded items (n + 1) new
 
 -- above the last number nothing stands
@@ -131,22 +135,26 @@ abbrev pub LoadEnds : Type 0
 LoadEnds = (items : Items) (n : ℕ) (numbers : Numbers) → IsLoaded items n numbers → 2 ≤ n → ((m : ℕ) → n ≤ m → items m ≡ None)
     → IsSound items × IsIndex items numbers
 
--- an item that fails a test breaks a rule
+-- number 1 must have a root
 abbrev pub RootBreaks : Type 0
 RootBreaks = (items : Items) → is_root_placed (items 1) ≡ false → Keeps items 1 → ⊥
 
+-- every other item must stand in a folder
 abbrev pub FolderBreaks : Type 0
 FolderBreaks = (items : Items) (n : ℕ) (x : Placed) → 2 ≤ n → items n ≡ Some x → is_folder_placed (items x.parent) ≡ false → Keeps items n → ⊥
 
+-- under at most 64 names
 abbrev pub DepthBreaks : Type 0
 DepthBreaks = (items : Items) (n : ℕ) (x : Placed) → 2 ≤ n → items n ≡ Some x → climbs 64 items n ≡ false → Keeps items n → ⊥
 
+-- with a name
 abbrev pub NameBreaks : Type 0
-NameBreaks = (items : Items) (n : ℕ) (x : Placed) → 2 ≤ n → items n ≡ Some x → x.name ≡ None → Keeps items n → ⊥
+NameBreaks = (items : Items) (n : ℕ) (x : Placed) → 2 ≤ n → items n ≡ Some x → is_some x.name ≡ false → Keeps items n → ⊥
 
+-- at a place that no lower number has
 abbrev pub PlaceBreaks : Type 0
-PlaceBreaks = (items : Items) (n k : ℕ) (x : Placed) (numbers : Numbers) → IsLoaded items n numbers → 2 ≤ n → items n ≡ Some x
-    → numbers (place_of x) ≡ Some k → Keeps items n → ⊥
+PlaceBreaks = (items : Items) (n : ℕ) (x : Placed) (numbers : Numbers) → IsLoaded items n numbers → 2 ≤ n → items n ≡ Some x
+    → is_some (numbers (place_of x)) ≡ true → Keeps items n → ⊥
 
 -- ---- how many there are
 
