@@ -1,3 +1,9 @@
+pub mod Parents
+pub mod Making
+pub mod Replacing
+pub mod Removing
+pub mod Dating
+pub mod Changing
 pub mod Walking
 pub mod Reading
 pub mod Avoiding

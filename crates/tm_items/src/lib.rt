@@ -2,6 +2,7 @@
 //! are (`docs/DEFINITIONS.md`, "Numbered items").
 #![tactic(auto)]
 
+pub mod change_laws;
 mod place;
 
 pub use place::Place;

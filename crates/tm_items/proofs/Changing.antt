@@ -1,0 +1,52 @@
+-- Items after each change.
+use Rattle.std.proofs.Common.{◌≡◌, ℕ, ◌+◌, ◌<◌, true, false, [], ◌∷◌, ◌++◌, length, refl, sym, ap, ◌∙◌, subst, Some, None, arith}
+use Rattle.tm_base.specs.Paths.{Names, is_root, parent_of}
+use Rattle.tm_tree.specs.Trees.{Tree, item_at, put, without, folder_at, is_some_folder, last_of}
+use Rattle.tm_tree.specs.declared.item.Item.{Item}
+use Rattle.tm_items.specs.Placings.{Placed, Items, Walks}
+use Rattle.tm_items.specs.Rules.{is_folder_placed}
+use Rattle.tm_items.specs.Changes.{Are, with_item, CanPlace, PlaceReads, CanRemove, without_item, RemoveReads}
+use Rattle.tm_items.proofs.Parents.{parts_of, parent_short}
+use Rattle.tm_items.proofs.Making.{CanMake, made_reads, made_sound, on_new}
+use Rattle.tm_items.proofs.Removing.{removed_reads, removed_sound, removed_walks}
+use Rattle.tm_items.proofs.Dating.{end_there, stands_there, date_reads}
+
+-- what a walk to a folder leads to is one
+pub folder_is : (items : Items) (t : Tree) → Are items t → (k : ℕ) (q : Names) → Walks items 1 q k → folder_at t q ≡ true → is_folder_placed (items k) ≡ true
+folder_is items t are k q w folder =
+    let there = end_there items are.sound k q w in
+    ap is_folder_placed there.1 ∙ sym (ap is_some_folder (stands_there items t are k q there.0 w there.1)) ∙ folder
+
+-- ---- a new item
+
+pub place_reads : PlaceReads
+place_reads items t p n k moment e are can =
+    let q = parent_of p in
+    let name = last_of p in
+    let parts = parts_of p can.below in
+    let makes : CanMake items t n k q name = record {
+      sound = are.sound;
+      reads = are.reads;
+      free = can.free;
+      not_root = can.not_root;
+      into = can.into;
+      folder = folder_is items t are k q can.into can.folder;
+      none = ap (item_at t) parts ∙ can.none;
+    } in
+    let new = with_item items n (record { parent = k; name = Some name; item = e }) in
+    let made : Are new (put t (q ++ name ∷ []) e) = record {
+      sound = made_sound items t n k q name e makes (omega (arith, parent_short p can.below, can.short));
+      reads = made_reads items t n k q name e makes;
+    } in
+    date_reads new (put t p e) k q moment (subst (λ (r : Names). Are new (put t r e)) parts made) (on_new items t n k q name e makes 1 k q can.into)
+
+-- ---- an item less
+
+not_own : (p : Names) → is_root p ≡ false → parent_of p ≡ p → ⊥
+not_own p below e = let same : length (parent_of p) ≡ length p = ap length e in omega (arith, same, parent_short p below)
+
+pub remove_reads : RemoveReads
+remove_reads items t p n k moment are can =
+    let new = without_item items n in
+    let less : Are new (without t p) = record { sound = removed_sound items t p n k are can; reads = removed_reads items t p n k are can } in
+    date_reads new (without t p) k (parent_of p) moment less (removed_walks items t p n k are can k (parent_of p) (not_own p can.below) can.folder)

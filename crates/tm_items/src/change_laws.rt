@@ -1,0 +1,18 @@
+//! Laws of changes of numbered items, of what they weigh, and of a folder's entries.
+ghost use Rattle.tm_items.specs.Changes.{PlaceReads, ReplaceReads, RemoveReads};
+
+/// Items with a new one, in a folder that is dated, keep the rules, and read as the tree with it.
+pub fn new_items_read()
+    ensures { PlaceReads }
+{}
+
+/// Items with another one in the place of one keep the rules, and read as the tree with it.
+pub fn replaced_items_read()
+    ensures { ReplaceReads }
+{}
+
+/// Items without one in which nothing stands, whose folder is dated, keep the rules, and read as
+/// the tree without it.
+pub fn removed_items_read()
+    ensures { RemoveReads }
+{}
