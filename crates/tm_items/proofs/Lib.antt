@@ -3,6 +3,7 @@ pub mod Making
 pub mod Replacing
 pub mod Removing
 pub mod Dating
+pub mod Moving
 pub mod Changing
 pub mod Walking
 pub mod Reading

@@ -15,7 +15,7 @@ use Rattle.tm_items.proofs.Reading.{chosen}
 use Rattle.tm_items.proofs.Avoiding.{Avoids, avoids_walks, end_avoids, number_is, last_passage, back_at, avoids_alike, with_at, with_differs, free_avoids, folder_above, no_child}
 
 -- k is a folder at q, where nothing stands under this name, and n is free
-pub record CanMake (items : Items) (t : Tree) (n k : ℕ) (q : Names) (name : List ℕ) : Type 0 where
+pub record Makes (items : Items) (t : Tree) (n k : ℕ) (q : Names) (name : List ℕ) : Type 0 where
   pub sound : IsSound items
   pub reads : ReadsAs items t
   pub free : items n ≡ None
@@ -36,7 +36,7 @@ truths h = cc
 pub flip : (n : ℕ) → (n == 1) ≡ false → (1 == n) ≡ false
 flip n h = grind (arith, nat_tests)
 
-module _ (items : Items) (t : Tree) (n k : ℕ) (q : Names) (name : List ℕ) (e : Item) (can : CanMake items t n k q name) where
+module _ (items : Items) (t : Tree) (n k : ℕ) (q : Names) (name : List ℕ) (e : Item) (can : Makes items t n k q name) where
   abbrev x : Placed
   x = record { parent = k; name = Some name; item = e }
 

@@ -1,5 +1,5 @@
 //! Laws of changes of numbered items, of what they weigh, and of a folder's entries.
-ghost use Rattle.tm_items.specs.Changes.{PlaceReads, ReplaceReads, RemoveReads};
+ghost use Rattle.tm_items.specs.Changes.{PlaceReads, ReplaceReads, RemoveReads, MoveReads};
 
 /// Items with a new one, in a folder that is dated, keep the rules, and read as the tree with it.
 pub fn new_items_read()
@@ -15,4 +15,10 @@ pub fn replaced_items_read()
 /// the tree without it.
 pub fn removed_items_read()
     ensures { RemoveReads }
+{}
+
+/// Items of which one stands in another place, with both folders dated, keep the rules, and read as
+/// the tree with all that stood at and beneath it moved.
+pub fn moved_items_read()
+    ensures { MoveReads }
 {}
