@@ -5,6 +5,7 @@ pub mod Removing
 pub mod Dating
 pub mod Moving
 pub mod Changing
+pub mod Weighing
 pub mod Walking
 pub mod Reading
 pub mod Avoiding

@@ -1,4 +1,5 @@
 //! Laws of changes of numbered items, of what they weigh, and of a folder's entries.
+ghost use Rattle.tm_items.specs.Computed.{WeighsAlike, CountsAlike};
 ghost use Rattle.tm_items.specs.Changes.{PlaceReads, ReplaceReads, RemoveReads, MoveReads};
 
 /// Items with a new one, in a folder that is dated, keep the rules, and read as the tree with it.
@@ -21,4 +22,15 @@ pub fn removed_items_read()
 /// the tree with all that stood at and beneath it moved.
 pub fn moved_items_read()
     ensures { MoveReads }
+{}
+
+/// By any weight of a name and an item, the items of a tree weigh together what the numbered items
+/// weigh.
+pub fn weights_are_alike()
+    ensures { WeighsAlike }
+{}
+
+/// A tree has as many items as stand under numbers.
+pub fn counts_are_alike()
+    ensures { CountsAlike }
 {}
