@@ -9,3 +9,5 @@ pub mod Weighing
 pub mod Walking
 pub mod Reading
 pub mod Avoiding
+pub mod Finding
+pub mod Indexing

@@ -4,7 +4,7 @@ use Rattle.std.specs.Map.{lookup}
 use Rattle.std.specs.BTreeMap.{is_at}
 use Rattle.tm_items.specs.declared.place.Place.{Place}
 use Rattle.tm_items.specs.Placings.{Items, IsChild}
-use Rattle.tm_items.specs.Places.{place_cmp}
+use Rattle.tm_items.specs.Places.{place_cmp, at_name}
 use Rattle.tm_items.specs.Rules.{Keeps}
 
 -- the number at each place
@@ -21,7 +21,7 @@ IsChildAt items a (Some name) k = IsChild items a name k
 -- the index has each child at its place, and nothing else
 pub record IsIndex (items : Items) (numbers : Numbers) : Type 0 where
   pub told : (place : Place) (k : ℕ) → numbers place ≡ Some k → IsChildAt items place.parent place.name k
-  pub known : (a k : ℕ) (name : List ℕ) → IsChild items a name k → numbers (record { parent = a; name = Some name }) ≡ Some k
+  pub known : (a k : ℕ) (name : List ℕ) → IsChild items a name k → numbers (at_name a name) ≡ Some k
 
 -- numbers with another answer at one place
 pub record SetsAt (place : Place) (o : Option ℕ) (old new : Numbers) : Type 0 where
@@ -33,7 +33,7 @@ pub record SetsAt (place : Place) (o : Option ℕ) (old new : Numbers) : Type 0 
 pub record IsIndexBelow (items : Items) (n : ℕ) (numbers : Numbers) : Type 0 where
   pub told : (place : Place) (k : ℕ) → numbers place ≡ Some k → IsChildAt items place.parent place.name k
   pub low : (place : Place) (k : ℕ) → numbers place ≡ Some k → k < n
-  pub known : (a k : ℕ) (name : List ℕ) → k < n → IsChild items a name k → numbers (record { parent = a; name = Some name }) ≡ Some k
+  pub known : (a k : ℕ) (name : List ℕ) → k < n → IsChild items a name k → numbers (at_name a name) ≡ Some k
 
 -- all numbers below n keep the rules, and stand in the index
 pub record IsLoaded (items : Items) (n : ℕ) (numbers : Numbers) : Type 0 where

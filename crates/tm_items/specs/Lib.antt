@@ -6,3 +6,4 @@ pub mod Places
 pub mod Index
 pub mod Finding
 pub mod Listing
+pub mod Laws

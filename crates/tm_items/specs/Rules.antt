@@ -1,5 +1,5 @@
 -- The rules of numbered items.
-use Rattle.std.specs.Prelude.{◌≡◌, ℕ, zero, suc, ◌<◌, ◌==◌, Bool, true, false, if◌then◌else◌, Option, Some, None, is_some}
+use Rattle.std.specs.Prelude.{◌≡◌, ℕ, zero, suc, ◌<◌, ◌==◌, Bool, true, false, not, ◌&&◌, if◌then◌else◌, Option, Some, None, is_some}
 use Rattle.tm_tree.specs.Items.{is_folder, is_excluded}
 use Rattle.tm_items.specs.Placings.{Placed, Items}
 
@@ -22,6 +22,11 @@ pub record IsRoot (x : Placed) : Type 0 where
   pub name : x.name ≡ None
   pub folder : is_folder x.item ≡ true
   pub included : is_excluded x.item ≡ false
+
+-- whether it may stand under number 1
+abbrev pub is_root_placed : Option Placed → Bool
+is_root_placed None = false
+is_root_placed (Some x) = (x.parent == 0) && not (is_some x.name) && is_folder x.item && not (is_excluded x.item)
 
 -- every other item has a name and stands in a folder; no other item with a lower number has its place, and it stands under
 -- at most 64 names
