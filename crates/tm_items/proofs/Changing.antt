@@ -6,17 +6,12 @@ use Rattle.tm_tree.specs.declared.item.Item.{Item}
 use Rattle.tm_items.specs.Placings.{Placed, Items, Walks}
 use Rattle.tm_items.specs.Rules.{is_folder_placed}
 use Rattle.tm_items.specs.Changes.{Are, with_item, CanPlace, PlaceReads, CanRemove, without_item, RemoveReads, CanMove, date_item, MoveReads}
-use Rattle.tm_items.proofs.Parents.{parts_of, parent_short, above_parent, own_parent, not_one}
+use Rattle.tm_items.proofs.Finding.{last_apart, folder_alike}
+use Rattle.tm_items.proofs.Parents.{parent_short, above_parent, own_parent, not_one}
 use Rattle.tm_items.proofs.Making.{Makes, made_reads, made_sound, on_new}
 use Rattle.tm_items.proofs.Removing.{removed_reads, removed_sound, removed_walks}
-use Rattle.tm_items.proofs.Dating.{end_there, stands_there, date_reads, date_walks}
+use Rattle.tm_items.proofs.Dating.{date_reads, date_walks}
 use Rattle.tm_items.proofs.Moving.{Moves, moved_reads, moved_sound, moved_walks}
-
--- what a walk to a folder leads to is one
-pub folder_is : (items : Items) (t : Tree) → Are items t → (k : ℕ) (q : Names) → Walks items 1 q k → folder_at t q ≡ true → is_folder_placed (items k) ≡ true
-folder_is items t are k q w folder =
-    let there = end_there items are.sound k q w in
-    ap is_folder_placed there.1 ∙ sym (ap is_some_folder (stands_there items t are k q there.0 w there.1)) ∙ folder
 
 -- ---- a new item
 
@@ -24,14 +19,14 @@ pub place_reads : PlaceReads
 place_reads items t p n k moment e are can =
     let q = parent_of p in
     let name = last_of p in
-    let parts = parts_of p can.below in
+    let parts = sym (last_apart p can.below) in
     let makes : Makes items t n k q name = record {
       sound = are.sound;
       reads = are.reads;
       free = can.free;
       not_root = can.not_root;
       into = can.into;
-      folder = folder_is items t are k q can.into can.folder;
+      folder = sym (folder_alike items t are q k can.into) ∙ can.folder;
       none = ap (item_at t) parts ∙ can.none;
     } in
     let new = with_item items n (record { parent = k; name = Some name; item = e }) in
@@ -58,7 +53,7 @@ pub move_reads : MoveReads
 move_reads items t a b n j k x moment are can =
     let q = parent_of b in
     let name = last_of b in
-    let parts = parts_of b can.below_to in
+    let parts = sym (last_apart b can.below_to) in
     let moves : Moves items t n x a k q name = record {
       sound = are.sound;
       reads = are.reads;
@@ -66,7 +61,7 @@ move_reads items t a b n j k x moment are can =
       is = can.is;
       not_root = not_one items n a can.below can.from;
       into = can.into;
-      folder = folder_is items t are k q can.into can.folder;
+      folder = sym (folder_alike items t are q k can.into) ∙ can.folder;
       none = ap (item_at t) parts ∙ can.none;
       apart = ap (is_prefix a) parts ∙ can.apart;
       short = λ rest there. subst (λ (r : Names). length r + length rest ≤ 64) (sym parts) (can.short rest there);

@@ -9,19 +9,8 @@ use Rattle.tm_tree.specs.Trees.{Tree, item_at, put, touch}
 use Rattle.tm_items.specs.Placings.{Placed, Items, Walks}
 use Rattle.tm_items.specs.Rules.{IsSound}
 use Rattle.tm_items.specs.Changes.{Are, CanReplace, replaced_items, date_placed, date_item}
+use Rattle.tm_items.proofs.Finding.{from_root, stands_at}
 use Rattle.tm_items.proofs.Replacing.{replace_reads, kept_walks, changed_is_put}
-
--- ---- what a walk leads to is there
-
-end_of : (items : Items) (a k : ℕ) (q : Names) (y : Placed) → items a ≡ Some y → Walks items a q k → (x : Placed) × (items k ≡ Some x)
-end_of items a k [] y is w = (y, ap items (sym w) ∙ is)
-end_of items a k (name ∷ q) y is w = end_of items w.0 k q w.1.placed w.1.is w.2
-
-pub end_there : (items : Items) → IsSound items → (k : ℕ) (q : Names) → Walks items 1 q k → (x : Placed) × (items k ≡ Some x)
-end_there items sound k q w = let root = (sound 1).root refl in end_of items 1 k q root.placed root.is w
-
-pub stands_there : (items : Items) (t : Tree) → Are items t → (k : ℕ) (q : Names) (x : Placed) → Walks items 1 q k → items k ≡ Some x → item_at t q ≡ Some x.item
-stands_there items t are k q x w is = are.reads.there q x.item (record { number = k; walks = w; placed = x; is = is; item = refl })
 
 -- ---- another date
 
@@ -56,11 +45,11 @@ module _ (items : Items) (t : Tree) (k : ℕ) (q : Names) (moment : ℕ) (are : 
   date_is x is = ap (λ o. date_placed o items k moment) is
 
   touch_is : (x : Placed) → items k ≡ Some x → touch t q moment ≡ put t q (dated x.item moment)
-  touch_is x is = changed_is_put (λ e. dated e moment) t q x.item are.reads.in_order (stands_there items t are k q x walks is)
+  touch_is x is = changed_is_put (λ e. dated e moment) t q x.item are.reads.in_order (stands_at items t are q k x walks is)
 
   pub date_reads : Are (date_item items k moment) (touch t q moment)
   date_reads =
-      let there = end_there items are.sound k q walks in
+      let there = from_root items are.sound k q walks in
       let x = there.0 in
       let reads = replace_reads items t k q x (dated x.item moment) are (can_date x there.1) in
       subst (λ (i : Items). Are i (touch t q moment)) (sym (date_is x there.1))
@@ -69,7 +58,7 @@ module _ (items : Items) (t : Tree) (k : ℕ) (q : Names) (moment : ℕ) (are : 
   -- numbers stay
   pub date_walks : (m : ℕ) (r : Names) → Walks items 1 r m → Walks (date_item items k moment) 1 r m
   date_walks m r w =
-      let there = end_there items are.sound k q walks in
+      let there = from_root items are.sound k q walks in
       let x = there.0 in
       subst (λ (i : Items). Walks i 1 r m) (sym (date_is x there.1))
       (kept_walks items t k q x (dated x.item moment) are (can_date x there.1) m r w)

@@ -17,13 +17,6 @@ clash h = cc
 long : (p : Names) → is_root p ≡ false → length p ≡ suc (length p - 1)
 long p h = grind (arith, nat_tests)
 
--- a path is its folder's and a name more
-pub parts_of : (p : Names) → is_root p ≡ false → parent_of p ++ last_of p ∷ [] ≡ p
-parts_of p h =
-    let n = length p - 1 in
-    let is : length p ≡ suc n = long p h in
-    sym (take-suc p n [] (omega (arith, is))) ∙ ap (λ (i : ℕ). take i p) (sym is) ∙ take-length p
-
 pub parent_short : (p : Names) → is_root p ≡ false → length p ≡ suc (length (parent_of p))
 parent_short p h = let is = long p h in omega (arith, is, length-take (length p - 1) p)
 
