@@ -6,6 +6,7 @@ pub mod Dating
 pub mod Moving
 pub mod Changing
 pub mod Weighing
+pub mod Entries
 pub mod Walking
 pub mod Reading
 pub mod Avoiding

@@ -1,4 +1,5 @@
 //! Laws of changes of numbered items, of what they weigh, and of a folder's entries.
+ghost use Rattle.tm_items.specs.Listing.{ListsChildren};
 ghost use Rattle.tm_items.specs.Computed.{WeighsAlike, CountsAlike};
 ghost use Rattle.tm_items.specs.Changes.{PlaceReads, ReplaceReads, RemoveReads, MoveReads};
 
@@ -33,4 +34,9 @@ pub fn weights_are_alike()
 /// A tree has as many items as stand under numbers.
 pub fn counts_are_alike()
     ensures { CountsAlike }
+{}
+
+/// The entries of a folder in the index are its children in the tree.
+pub fn listings_are_children()
+    ensures { ListsChildren }
 {}
