@@ -1,5 +1,5 @@
 -- The way down a path by the index.
-use Rattle.std.proofs.Common.{◌≡◌, ℕ, ◌+◌, ◌-◌, ◌<◌, ◌≤◌, ◌==◌, true, false, List, [], ◌∷◌, ◌++◌, length, take, drop, get_or, slice_get, refl, sym, ap, ◌∙◌, subst, Option, Some, None, is_some, Result, Err, arith, add-one, drop-cons}
+use Rattle.std.proofs.Common.{◌≡◌, ℕ, ◌+◌, ◌-◌, ◌<◌, ◌≤◌, ◌==◌, true, false, List, [], ◌∷◌, ◌++◌, length, take, drop, slice_get, refl, sym, ap, ◌∙◌, subst, Option, Some, None, is_some, Result, Ok, Err, arith, add-one, drop-cons}
 use Rattle.std.proofs.lemmas.Bool.Decides.{nat_tests}
 use Rattle.std.proofs.lemmas.List.{take_more, take_all, drop_all}
 use Rattle.std.proofs.lemmas.Option.{slice_get_within, get_or_from_slice_get}
@@ -13,10 +13,10 @@ use Rattle.tm_tree.specs.Walks.{through, found, walk_from, walk}
 use Rattle.tm_items.specs.Placings.{Placed, Items, IsChild, Walks}
 use Rattle.tm_items.specs.Rules.{IsSound, is_folder_placed}
 use Rattle.tm_items.specs.Changes.{Are}
-use Rattle.tm_items.specs.Places.{at_name, place_in, place_of}
+use Rattle.tm_items.specs.Places.{at_name, place_in}
 use Rattle.tm_items.specs.Index.{Numbers, IsIndex}
 use Rattle.tm_items.specs.Finding.{FoundAt, OnWay}
-use Rattle.tm_items.specs.Laws.{WayStarts, WayStands, WayGoesOn, WayMisses, WayIsBlocked, WayEnds, IndexHas, IndexLeads, OwnPlace, NothingIn, NothingInLeaf}
+use Rattle.tm_items.specs.Laws.{WayStarts, WayStands, WayGoesOn, WayMisses, WayIsBlocked, WayEnds, WalkFinds, IndexHas, IndexLeads, OwnPlace, NothingIn, NothingInLeaf}
 use Rattle.tm_items.proofs.Walking.{walks_on, walk_parts, one_number, one_each, have_names}
 use Rattle.tm_items.proofs.Reading.{some_of}
 use Rattle.tm_items.proofs.Avoiding.{number_is, folder_above}
@@ -134,6 +134,23 @@ way_ends items t p i n are way end =
     let x = way_item items t p i n are way in
     let stands = stands_at items t are p n x.0 w x.1 in
     record { placed = x.0; is = x.1; walks = w; stands = stands; walk_is = way.comes ∙ walk_end t p i end ∙ ap found stands }
+
+-- a walk down the names of a path, from any folder on the way
+walk_down : (items : Items) (t : Tree) → Are items t → (done rest : Names) (a n : ℕ) (x : Placed) → Walks items 1 done a → Walks items a rest n → items n ≡ Some x → walk_from t done rest ≡ Ok x.item
+walk_down items t are done [] a n x w v is = ap found (stands_at items t are done a x w (ap items v ∙ is))
+walk_down items t are done (name ∷ rest) a n x w v is =
+    let y = from_root items are.sound a done w in
+    let folder = ap is_folder_placed (sym y.1) ∙ folder_above items are.sound a v.0 name v.1 in
+    rw (stands_at items t are done a y.0 w y.1, folder) (walk_down items t are (done ++ name ∷ []) rest v.0 n x (walks_on items 1 a v.0 done (name ∷ []) w (v.0, v.1, refl)) v.2 is)
+
+pub walk_finds : WalkFinds
+walk_finds items t p n are w =
+    let x = from_root items are.sound n p w in
+    record { placed = x.0; is = x.1; walks = w; stands = stands_at items t are p n x.0 w x.1; walk_is = walk_down items t are [] p 1 n x.0 refl w x.1 }
+
+-- what stands at a path has a number
+pub stands_found : (items : Items) (t : Tree) (p : Names) (e : Item) → Are items t → item_at t p ≡ Some e → (n : ℕ) × FoundAt items t p n
+stands_found items t p e are is = let s = are.reads.only p e is in (s.number, walk_finds items t p s.number are s.walks)
 
 -- ---- what the index tells
 

@@ -273,10 +273,12 @@ index_removes items t p n k moment old new are can index unsets =
 -- two places apart may be set one after the other
 swapped : (p q : Place) (o r : Option ℕ) (old between new : Numbers) → (p ≡ q → ⊥) → SetsAt p o old between → SetsAt q r between new
     → (mid : Numbers) → ((s : Place) → mid s ≡ cond (is_at (place_cmp q) s) r (old s)) → SetsAt p o mid new
-swapped p q o r old between new off sets more mid is = record { at = λ s.
-    more.at s ∙ ap (cond (is_at (place_cmp q) s) r) (sets.at s)
-    ∙ order (is_at (place_cmp p) s) (is_at (place_cmp q) s) o r (old s) (λ a b. off ((place_decides p s).0 a ∙ sym ((place_decides q s).0 b)))
-    ∙ ap (cond (is_at (place_cmp p) s) o) (sym (is s)) }
+swapped p q o r old between new off sets more mid is = record {
+  at = λ s.
+      more.at s ∙ ap (cond (is_at (place_cmp q) s) r) (sets.at s)
+      ∙ order (is_at (place_cmp p) s) (is_at (place_cmp q) s) o r (old s) (λ a b. off ((place_decides p s).0 a ∙ sym ((place_decides q s).0 b)))
+      ∙ ap (cond (is_at (place_cmp p) s) o) (sym (is s));
+}
   where
     order : (b c : Bool) (o r u : Option ℕ) → (b ≡ true → c ≡ true → ⊥) → cond c r (cond b o u) ≡ cond b o (cond c r u)
     order true true o r u h = absurd (h refl refl)

@@ -12,3 +12,6 @@ pub mod Reading
 pub mod Avoiding
 pub mod Finding
 pub mod Indexing
+pub mod Loading
+pub mod Counting
+pub mod Ranges

@@ -1,5 +1,5 @@
 -- What holds of numbered items and their index.
-use Rattle.std.specs.Prelude.{◌≡◌, ℕ, ◌+◌, ◌≤◌, ◌<◌, ◌==◌, true, false, is_some, Some, None, Err, List, length, slice_get}
+use Rattle.std.specs.Prelude.{◌≡◌, ℕ, ◌+◌, ◌≤◌, ◌<◌, ◌==◌, true, false, is_some, Some, None, Err, List, [], length, slice_get}
 use Rattle.tm_base.specs.Paths.{Names, parent_of, is_root}
 use Rattle.tm_base.specs.declared.refused.Refused.TheVariants.{NotFound, NotFolder}
 use Rattle.tm_tree.specs.declared.item.Item.{Item}
@@ -11,7 +11,8 @@ use Rattle.tm_items.specs.Rules.{is_folder_placed, is_root_placed, climbs, Keeps
 use Rattle.tm_items.specs.Computed.{Placings, items_of, AreNumbered}
 use Rattle.tm_items.specs.Changes.{date_item, Are, CanPlace, placed_items, replaced_items, CanRemove, removed_items, CanMove, moved_items}
 use Rattle.tm_items.specs.Places.{at_name, place_in, place_of}
-use Rattle.tm_items.specs.Index.{Numbers, IsIndex, SetsAt, IsLoaded}
+use Rattle.tm_items.specs.Index.{Numbers, numbers_of, IsIndex, SetsAt, IsLoaded}
+use Rattle.tm_items.specs.Listing.{children_in}
 use Rattle.tm_items.specs.Finding.{FoundAt, OnWay}
 
 -- ---- the way down a path by the index
@@ -44,6 +45,10 @@ WayIsBlocked = (items : Items) (t : Tree) (p : Names) (i n : ℕ) → Are items 
 abbrev pub WayEnds : Type 0
 WayEnds = (items : Items) (t : Tree) (p : Names) (i n : ℕ) → Are items t → OnWay items t p i n → i ≡ length p → FoundAt items t p n
 
+-- each walk by names finds an item
+abbrev pub WalkFinds : Type 0
+WalkFinds = (items : Items) (t : Tree) (p : Names) (n : ℕ) → Are items t → Walks items 1 p n → FoundAt items t p n
+
 -- ---- what the index tells
 
 -- whether something stands at a path
@@ -66,6 +71,10 @@ abbrev pub NothingIn : Type 0
 NothingIn = (items : Items) (numbers : Numbers) (n : ℕ) → IsSound items → IsIndex items numbers
     → ((name : List ℕ) → numbers (at_name n name) ≡ None)
     → (m : ℕ) (x : Placed) → items m ≡ Some x → (m == 1) ≡ false → (x.parent == n) ≡ false
+
+-- a folder without a place in the index's list has none of its names in the index
+abbrev pub EmptyRange : Type 0
+EmptyRange = (index : List (Place × ℕ)) (n : ℕ) → children_in n index ≡ [] → (name : List ℕ) → numbers_of index (at_name n name) ≡ None
 
 -- nothing stands in a file or link
 abbrev pub NothingInLeaf : Type 0
@@ -145,3 +154,8 @@ PlaceBreaks = (items : Items) (n k : ℕ) (x : Placed) (numbers : Numbers) → I
 abbrev pub AllTaken : Type 0
 AllTaken = (placings : Placings) (n : ℕ) → AreNumbered placings
     → ((m : ℕ) → 1 ≤ m → m ≤ n → is_some (items_of placings m) ≡ true) → n ≤ length placings
+
+-- where all numbers are from 1 to n, there are at most n items
+abbrev pub FewNumbers : Type 0
+FewNumbers = (placings : Placings) (n : ℕ) → AreNumbered placings
+    → ((m : ℕ) → is_some (items_of placings m) ≡ true → (1 ≤ m) × (m ≤ n)) → length placings ≤ n
