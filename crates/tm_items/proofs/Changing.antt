@@ -1,11 +1,8 @@
 -- Items after each change.
-use Rattle.std.proofs.Common.{◌≡◌, ℕ, ◌+◌, ◌<◌, ◌≤◌, true, false, [], ◌∷◌, ◌++◌, length, refl, sym, ap, ◌∙◌, subst, Some, None, arith}
+use Rattle.std.proofs.Common.{◌≡◌, ◌+◌, ◌≤◌, false, [], ◌∷◌, ◌++◌, length, sym, ap, ◌∙◌, subst, Some, arith}
 use Rattle.tm_base.specs.Paths.{Names, is_root, is_prefix, parent_of}
-use Rattle.tm_tree.specs.Trees.{Tree, item_at, put, without, moved, touch, folder_at, is_some_folder, last_of}
-use Rattle.tm_tree.specs.declared.item.Item.{Item}
-use Rattle.tm_items.specs.Placings.{Placed, Items, Walks}
-use Rattle.tm_items.specs.Rules.{is_folder_placed}
-use Rattle.tm_items.specs.Changes.{Are, with_item, CanPlace, PlaceReads, CanRemove, without_item, RemoveReads, CanMove, date_item, MoveReads}
+use Rattle.tm_tree.specs.Trees.{item_at, put, without, moved, touch, last_of}
+use Rattle.tm_items.specs.Changes.{Are, with_item, PlaceReads, without_item, RemoveReads, date_item, MoveReads}
 use Rattle.tm_items.proofs.Finding.{last_apart, folder_alike}
 use Rattle.tm_items.proofs.Parents.{parent_short, above_parent, own_parent, not_one}
 use Rattle.tm_items.proofs.Making.{Makes, made_reads, made_sound, on_new}

@@ -1,11 +1,11 @@
 -- A folder dated.
-use Rattle.std.proofs.Common.{◌≡◌, ℕ, ◌==◌, true, false, [], ◌∷◌, refl, sym, ap, ◌∙◌, subst, Some, arith}
+use Rattle.std.proofs.Common.{◌≡◌, ℕ, ◌==◌, true, false, refl, sym, ap, ◌∙◌, subst, Some, arith}
 use Rattle.std.proofs.lemmas.Bool.Decides.{nat_tests}
 use Rattle.tm_base.specs.Paths.{Names}
 use Rattle.tm_tree.specs.declared.item.Item.{Item}
 use Rattle.tm_tree.specs.declared.item.Item.TheVariants.{Folder, File, Link}
 use Rattle.tm_tree.specs.Items.{dated, is_folder, is_excluded}
-use Rattle.tm_tree.specs.Trees.{Tree, item_at, put, touch}
+use Rattle.tm_tree.specs.Trees.{Tree, put, touch}
 use Rattle.tm_items.specs.Placings.{Placed, Items, Walks}
 use Rattle.tm_items.specs.Rules.{IsSound}
 use Rattle.tm_items.specs.Changes.{Are, CanReplace, replaced_items, date_placed, date_item}

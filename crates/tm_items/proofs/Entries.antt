@@ -1,21 +1,19 @@
 -- A folder's entries in the index are its children in the tree.
-use Rattle.std.proofs.Common.{◌≡◌, ℕ, suc, ◌+◌, ◌-◌, ◌<◌, ◌==◌, nat_lt, Bool, true, false, not, ◌&&◌, cond, List, [], ◌∷◌, ◌++◌, length, take, filter, refl, sym, ap, ◌∙◌, subst, Option, Some, None, is_some, arith, length-append, ◌⊎◌, inl, inr}
+use Rattle.std.proofs.Common.{◌≡◌, ℕ, ◌+◌, ◌-◌, ◌==◌, nat_lt, Bool, true, false, not, ◌&&◌, cond, List, [], ◌∷◌, ◌++◌, length, take, filter, refl, sym, ap, ◌∙◌, subst, Option, Some, None, is_some, arith, length-append, inl, inr}
 use Rattle.std.proofs.Math.Seq.{take-append_seam}
 use Rattle.std.proofs.lemmas.Bool.Decides.{nat_tests}
 use Rattle.std.proofs.lemmas.List.Kept.{IsStrictlySortedBy-filter}
 use Rattle.std.proofs.lemmas.Map.Entries.{lookup-filter-keys}
 use Rattle.std.specs.declared.cmp.Ordering.{Ordering}
 use Rattle.std.specs.declared.cmp.Ordering.TheVariants.{Less, Equal, Greater}
-use Rattle.std.specs.declared.ops.Bound.TheVariants.{Included, Excluded}
 use Rattle.std.specs.Ordering.{nat_cmp, ordering_then, is_eq, is_le}
 use Rattle.std.specs.Option.{option_cmp}
 use Rattle.std.specs.Cmp.{tied_itself, nat_cmp_total}
 use Rattle.std.specs.Cmp.Lexicographic.{slice_cmp}
 use Rattle.std.specs.List.{AllByRecursion}
 use Rattle.std.specs.List.Sorted.{IsStrictlySortedBy}
-use Rattle.std.specs.Map.{keys_of, lookup}
+use Rattle.std.specs.Map.{keys_of}
 use Rattle.std.specs.BTreeMap.{is_at}
-use Rattle.std.specs.BTreeMap.Range.{range_contains}
 use Rattle.tm_base.specs.Paths.{Names, path_cmp, same_path, is_root, parent_of}
 use Rattle.tm_base.proofs.PathLemmas.{path_cmp-append, same_path_decides}
 use Rattle.tm_tree.specs.declared.item.Item.{Item}
@@ -24,36 +22,23 @@ use Rattle.tm_tree.proofs.AtPaths.{trees_equal}
 use Rattle.tm_tree.proofs.CopyProofs.{at_is}
 use Rattle.tm_tree.proofs.Order.{InOrder, AllPaths, in_order_filter}
 use Rattle.tm_items.specs.declared.place.Place.{Place}
-use Rattle.tm_items.specs.Placings.{Placed, Items, IsChild, Walks}
-use Rattle.tm_items.specs.Changes.{Are}
-use Rattle.tm_items.specs.Computed.{under}
-use Rattle.tm_items.specs.Index.{IsIndex, IsChildAt, numbers_of}
+use Rattle.tm_items.specs.Placings.{Items, IsChild, Walks}
+use Rattle.tm_items.specs.Index.{IsChildAt, numbers_of}
 use Rattle.tm_items.specs.Listing.{children_in, row_of, rows_in, ListsChildren}
 use Rattle.tm_items.specs.Places.{place_cmp, at_name}
 use Rattle.tm_items.proofs.Walking.{walks_on, one_number, one_each, one_path}
 use Rattle.tm_items.proofs.Reading.{Among, chosen, some_of, last_step}
 use Rattle.tm_items.proofs.Indexing.{place_decides}
+use Rattle.tm_items.proofs.Ranges.{is_in_folder, range_looks}
 
 clash : {P : Type 0} → false ≡ true → P
 clash h = cc
 
 -- ---- the entries of a folder, and no others, are in its range
 
-abbrev is_in : ℕ → Place → Bool
-is_in k q = range_contains place_cmp (Included (record { parent = k; name = None })) (Excluded (record { parent = k + 1; name = None })) q
-
 no_name_first : (o : Option (List ℕ)) → is_le (option_cmp (slice_cmp nat_cmp) None o) ≡ true
 no_name_first None = refl
 no_name_first (Some name) = refl
-
-below_next : (k : ℕ) → nat_cmp (k + 1) k ≡ Greater
-below_next k =
-    let low : nat_lt (k + 1) k ≡ false = grind (arith, nat_tests) in
-    let off : (k + 1 == k) ≡ false = grind (arith, nat_tests) in
-    rw (low, off) refl
-
-in_range : (k : ℕ) (name : List ℕ) → is_in k (at_name k name) ≡ true
-in_range k name = rw (tied_itself nat_cmp_total k, below_next k) refl
 
 -- a parent that is not below k, and not above it
 pub record Within (a b c d : Bool) : Type 0 where
@@ -85,7 +70,7 @@ parent_is k m w =
       | false ↦ λ e. let same : (k == m) ≡ true = w.reached e in grind (arith, nat_tests)
     ] refl
 
-parent_in : (k : ℕ) (q : Place) → is_in k q ≡ true → q.parent ≡ k
+parent_in : (k : ℕ) (q : Place) → is_in_folder k q ≡ true → q.parent ≡ k
 parent_in k q h = parent_is k q.parent (within (nat_lt k q.parent) (k == q.parent) (nat_lt (k + 1) q.parent) (k + 1 == q.parent) (option_cmp (slice_cmp nat_cmp) None q.name) (no_name_first q.name) h)
 
 -- ---- a part of a sorted list
@@ -252,11 +237,11 @@ same_answers (Some e) r h g = sym (h e refl)
 pub lists_children : ListsChildren
 lists_children items t index k p are index_is sorted walks =
     let es = children_in k index in
-    let parts : (place : Place) (n : ℕ) → Among es place n → Among index place n × (is_in k place ≡ true) = λ place n a. among-filter (is_in k) index place n a in
+    let parts : (place : Place) (n : ℕ) → Among es place n → Among index place n × (is_in_folder k place ≡ true) = λ place n a. among-filter (is_in_folder k) index place n a in
     let kids : Kids items p k es = λ place n a.
-        let part = parts place n a in
-        kid_of items p k place n place.name refl (parent_in k place part.1) (index_is.told place n (found_at index place n sorted part.0)) in
-    let rises : IsStrictlySortedBy place_cmp (keys_of es) = subst (λ (ks : List Place). IsStrictlySortedBy place_cmp ks) (sym (keys-filter (is_in k) index)) (IsStrictlySortedBy-filter place_cmp (is_in k) (keys_of index) sorted) in
+    let part = parts place n a in
+    kid_of items p k place n place.name refl (parent_in k place part.1) (index_is.told place n (found_at index place n sorted part.0)) in
+    let rises : IsStrictlySortedBy place_cmp (keys_of es) = subst (λ (ks : List Place). IsStrictlySortedBy place_cmp ks) (sym (keys-filter (is_in_folder k) index)) (IsStrictlySortedBy-filter place_cmp (is_in_folder k) (keys_of index) sorted) in
     trees_equal (rows_in items p es) (children t p) (in_order_rows items p k es kids rises) (in_order_filter (λ row. is_child p row.0) t are.reads.in_order)
     (λ r. same_answers (item_at (rows_in items p es) r) (item_at (children t p) r) (λ e is. to_child r e (row_at items p k es kids r e is)) (λ there. to_row r kids there))
   where
@@ -277,5 +262,5 @@ lists_children items t index k p are index_is sorted walks =
         let c : IsChild items k l.called s.number = subst (λ (a : ℕ). IsChild items a l.called s.number) same l.child in
         let path_is : p ++ l.called ∷ [] ≡ r = one_path items s.number (p ++ l.called ∷ []) r (walks_on items 1 k s.number p (l.called ∷ []) walks (s.number, c, refl)) s.walks in
         let found : numbers_of (children_in k index) (at_name k l.called) ≡ Some s.number =
-            lookup-filter-keys (is_at (place_cmp (at_name k l.called))) (is_in k) true (λ q hit. ap (is_in k) (sym ((place_decides (at_name k l.called) q).0 hit)) ∙ in_range k l.called) index ∙ index_is.known k s.number l.called c in
+        range_looks index k l.called ∙ index_is.known k s.number l.called c in
         subst (λ (q : Names). is_some (item_at (rows_in items p (children_in k index)) q) ≡ true) path_is (has_row items p k (children_in k index) kids l.called s.number found)

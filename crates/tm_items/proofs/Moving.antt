@@ -1,12 +1,10 @@
 -- An item with another place: the items and the tree with all beneath it moved.
-use Rattle.std.proofs.Common.{◌≡◌, ℕ, ◌+◌, ◌<◌, ◌≤◌, ◌==◌, Bool, true, false, cond, List, [], ◌∷◌, ◌++◌, length, drop, length-append, refl, sym, ap, ◌∙◌, subst, Option, Some, None, is_some, arith, append_assoc, append-nil, ◌⊎◌, inl, inr, if◌then◌else◌}
+use Rattle.std.proofs.Common.{◌≡◌, ℕ, ◌+◌, ◌<◌, ◌≤◌, ◌==◌, Bool, true, false, List, [], ◌∷◌, ◌++◌, length, drop, length-append, refl, sym, ap, ◌∙◌, subst, Some, None, is_some, arith, append_assoc, append-nil, ◌⊎◌, inl, inr, if◌then◌else◌}
 use Rattle.std.proofs.lemmas.Bool.Decides.{nat_tests}
 use Rattle.std.proofs.lemmas.List.Prefix.{front_rest}
-use Rattle.std.specs.BTreeMap.{is_at}
 use Rattle.tm_tree.specs.declared.item.Item.{Item}
-use Rattle.tm_base.specs.Paths.{Names, path_cmp, is_prefix}
+use Rattle.tm_base.specs.Paths.{Names, is_prefix}
 use Rattle.tm_tree.specs.Trees.{Tree, item_at, moved, rekeyed}
-use Rattle.tm_tree.proofs.Order.{AllPaths}
 use Rattle.tm_base.proofs.PathLemmas.{prefix_is, is_prefix_of_append}
 use Rattle.tm_tree.proofs.MovesKept.{moved_at}
 use Rattle.tm_tree.proofs.TreesKept.{nothing_beneath}
@@ -14,7 +12,7 @@ use Rattle.tm_items.specs.Placings.{Placed, Items, Walks, Stands, ReadsAs}
 use Rattle.tm_items.specs.Rules.{IsSound, IsPlaced, is_folder_placed, climbs}
 use Rattle.tm_items.specs.Changes.{with_item}
 use Rattle.tm_items.proofs.Walking.{walks_on, walk_parts, one_path, one_number, one_each, reached, climbs_far, climbs_walk}
-use Rattle.tm_items.proofs.Reading.{some_of, is_tree, in_order_from}
+use Rattle.tm_items.proofs.Reading.{is_tree, in_order_from}
 use Rattle.tm_items.proofs.Avoiding.{Avoids, Passes, avoids_walks, avoids_parts, end_avoids, number_is, itself, last_passage, back_at, avoids_alike, with_at, with_differs, no_child}
 use Rattle.tm_items.proofs.Making.{flip}
 

@@ -1,11 +1,9 @@
 -- Paths and the folders that hold them.
-use Rattle.std.proofs.Common.{◌≡◌, ℕ, suc, ◌+◌, ◌-◌, ◌<◌, ◌==◌, true, false, [], ◌∷◌, ◌++◌, length, take, drop, refl, sym, ap, ◌∙◌, subst, arith, length-append, length-take}
+use Rattle.std.proofs.Common.{◌≡◌, ℕ, suc, ◌-◌, ◌==◌, true, false, [], ◌++◌, length, drop, refl, sym, ap, ◌∙◌, arith, length-append, length-take}
 use Rattle.std.proofs.lemmas.Bool.Decides.{nat_tests}
 use Rattle.std.proofs.lemmas.List.{take-append-drop}
-use Rattle.std.proofs.Math.Seq.{take-suc, take-length}
 use Rattle.tm_base.specs.Paths.{Names, is_prefix, is_root, parent_of}
 use Rattle.tm_base.proofs.PathLemmas.{prefix_is, is_prefix_of_append}
-use Rattle.tm_tree.specs.Trees.{last_of}
 use Rattle.tm_tree.proofs.CopyProofs.{is_prefix_trans}
 use Rattle.tm_items.specs.Placings.{Items, Walks}
 use Rattle.tm_items.proofs.Walking.{one_path}

@@ -1,9 +1,9 @@
 -- Another item in the place of one.
-use Rattle.std.proofs.Common.{◌≡◌, ℕ, ◌==◌, Bool, true, false, cond, List, [], ◌∷◌, refl, sym, ap, ◌∙◌, subst, Option, Some, None, is_some, option_map, arith}
+use Rattle.std.proofs.Common.{◌≡◌, ℕ, ◌==◌, true, false, cond, List, [], ◌∷◌, refl, sym, ap, ◌∙◌, subst, Some, is_some, option_map, arith}
 use Rattle.std.proofs.lemmas.Bool.Decides.{nat_tests}
 use Rattle.std.specs.BTreeMap.{is_at}
 use Rattle.tm_tree.specs.declared.item.Item.{Item}
-use Rattle.tm_tree.specs.Items.{is_folder, is_excluded}
+use Rattle.tm_tree.specs.Items.{is_folder}
 use Rattle.tm_base.specs.Paths.{Names, path_cmp}
 use Rattle.tm_tree.specs.Trees.{Tree, item_at, put, change_at}
 use Rattle.tm_tree.proofs.AtPaths.{item_at-put, in_order_put, trees_equal}
@@ -87,6 +87,7 @@ module _ (items : Items) (t : Tree) (n : ℕ) (x : Placed) (p : Names) (e : Item
             let off : (s.number == n) ≡ false = elsewhere r s.number past (walks_old 1 s.number r s.walks) in
             are.reads.there r f (record { number = s.number; walks = walks_old 1 s.number r s.walks; placed = s.placed; is = sym ((with_differs items n y).same s.number off) ∙ s.is; item = s.item })
       ] refl
+
   only_set : (r : Names) (f : Item) → item_at (put t p e) r ≡ Some f → Stands new r f
   only_set r f is =
       elim (is_at (path_cmp r) p) as (λ b. is_at (path_cmp r) p ≡ b → cond b (Some e) (item_at t r) ≡ Some f → Stands new r f) [
@@ -98,6 +99,7 @@ module _ (items : Items) (t : Tree) (n : ℕ) (x : Placed) (p : Names) (e : Item
             let off : (s.number == n) ≡ false = elsewhere r s.number past s.walks in
             record { number = s.number; walks = walks_new 1 s.number r s.walks; placed = s.placed; is = (with_differs items n y).same s.number off ∙ s.is; item = s.item }
       ] refl (sym (item_at-put t p e r) ∙ is)
+
   pub set_reads : ReadsAs new (put t p e)
   set_reads = record {
     in_order = in_order_put t p e are.reads.in_order;
