@@ -1,3 +1,12 @@
+pub mod Parents
+pub mod Making
+pub mod Replacing
+pub mod Removing
+pub mod Dating
+pub mod Moving
+pub mod Changing
+pub mod Weighing
+pub mod Entries
 pub mod Walking
 pub mod Reading
 pub mod Avoiding
