@@ -1,5 +1,5 @@
 -- A folder's entries in the index are its children in the tree.
-use Rattle.std.proofs.Common.{◌≡◌, ℕ, ◌+◌, ◌-◌, ◌==◌, nat_lt, Bool, true, false, not, ◌&&◌, cond, List, [], ◌∷◌, ◌++◌, length, take, filter, refl, sym, ap, ◌∙◌, subst, Option, Some, None, is_some, arith, length-append, inl, inr}
+use Rattle.std.proofs.Common.{◌≡◌, ℕ, suc, ◌+◌, ◌-◌, ◌==◌, nat_lt, Bool, true, false, not, ◌&&◌, cond, List, [], ◌∷◌, ◌++◌, length, take, filter, refl, sym, ap, ◌∙◌, subst, Option, Some, None, is_some, arith, length-append, inl, inr}
 use Rattle.std.proofs.Math.Seq.{take-append_seam}
 use Rattle.std.proofs.lemmas.Bool.Decides.{nat_tests}
 use Rattle.std.proofs.lemmas.List.Kept.{IsStrictlySortedBy-filter}
@@ -23,8 +23,8 @@ use Rattle.tm_tree.proofs.CopyProofs.{at_is}
 use Rattle.tm_tree.proofs.Order.{InOrder, AllPaths, in_order_filter}
 use Rattle.tm_items.specs.declared.place.Place.{Place}
 use Rattle.tm_items.specs.Placings.{Items, IsChild, Walks}
-use Rattle.tm_items.specs.Index.{IsChildAt, numbers_of}
-use Rattle.tm_items.specs.Listing.{children_in, row_of, rows_in, ListsChildren}
+use Rattle.tm_items.specs.Index.{IsChildAt, IsIndex, numbers_of}
+use Rattle.tm_items.specs.Listing.{children_in, row_of, rows_in, ListsChildren, CountsChildren}
 use Rattle.tm_items.specs.Places.{place_cmp, at_name}
 use Rattle.tm_items.proofs.Walking.{walks_on, one_number, one_each, one_path}
 use Rattle.tm_items.proofs.Reading.{Among, chosen, some_of, last_step}
@@ -163,6 +163,11 @@ module _ (items : Items) (p : Names) (k : ℕ) where
       let later : Kids es = λ q n a. kids q n (inr a) in
       subst (λ (t : Tree). InOrder t) (sym (rows_are e es c)) (above_rows e.0 c.called c.parent c.name es later h.0, in_order_rows es later h.1)
 
+  rows_count : (es : List (Place × ℕ)) → Kids es → length (rows_in items p es) ≡ length es
+  rows_count [] kids = refl
+  rows_count (e ∷ es) kids =
+      ap (λ (t : Tree). length t) (rows_are e es (kids e.0 e.1 (inl (refl, refl)))) ∙ ap suc (rows_count es (λ q n a. kids q n (inr a)))
+
   -- what stands in the rows at r
   record Row (r : Names) (x : Item) : Type 0 where
     number : ℕ
@@ -234,13 +239,16 @@ same_answers None None h g = refl
 same_answers None (Some e) h g = clash (g refl)
 same_answers (Some e) r h g = sym (h e refl)
 
+-- the entries in a folder's range are children of it
+kids_in : (items : Items) (index : List (Place × ℕ)) (k : ℕ) (p : Names) → IsIndex items (numbers_of index) → IsStrictlySortedBy place_cmp (keys_of index) → Kids items p k (children_in k index)
+kids_in items index k p index_is sorted place n a =
+    let part = among-filter (is_in_folder k) index place n a in
+    kid_of items p k place n place.name refl (parent_in k place part.1) (index_is.told place n (found_at index place n sorted part.0))
+
 pub lists_children : ListsChildren
 lists_children items t index k p are index_is sorted walks =
     let es = children_in k index in
-    let parts : (place : Place) (n : ℕ) → Among es place n → Among index place n × (is_in_folder k place ≡ true) = λ place n a. among-filter (is_in_folder k) index place n a in
-    let kids : Kids items p k es = λ place n a.
-    let part = parts place n a in
-    kid_of items p k place n place.name refl (parent_in k place part.1) (index_is.told place n (found_at index place n sorted part.0)) in
+    let kids = kids_in items index k p index_is sorted in
     let rises : IsStrictlySortedBy place_cmp (keys_of es) = subst (λ (ks : List Place). IsStrictlySortedBy place_cmp ks) (sym (keys-filter (is_in_folder k) index)) (IsStrictlySortedBy-filter place_cmp (is_in_folder k) (keys_of index) sorted) in
     trees_equal (rows_in items p es) (children t p) (in_order_rows items p k es kids rises) (in_order_filter (λ row. is_child p row.0) t are.reads.in_order)
     (λ r. same_answers (item_at (rows_in items p es) r) (item_at (children t p) r) (λ e is. to_child r e (row_at items p k es kids r e is)) (λ there. to_row r kids there))
@@ -264,3 +272,7 @@ lists_children items t index k p are index_is sorted walks =
         let found : numbers_of (children_in k index) (at_name k l.called) ≡ Some s.number =
         range_looks index k l.called ∙ index_is.known k s.number l.called c in
         subst (λ (q : Names). is_some (item_at (rows_in items p (children_in k index)) q) ≡ true) path_is (has_row items p k (children_in k index) kids l.called s.number found)
+
+pub counts_children : CountsChildren
+counts_children items t index k p are index_is sorted walks =
+    sym (ap (λ (rows : Tree). length rows) (lists_children items t index k p are index_is sorted walks)) ∙ rows_count items p k (children_in k index) (kids_in items index k p index_is sorted)

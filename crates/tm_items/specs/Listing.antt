@@ -1,5 +1,5 @@
 -- A folder's entries in the index.
-use Rattle.std.specs.Prelude.{◌≡◌, ℕ, ◌+◌, Option, Some, None, List, [], ◌∷◌, ◌++◌}
+use Rattle.std.specs.Prelude.{◌≡◌, ℕ, ◌+◌, Option, Some, None, List, [], ◌∷◌, ◌++◌, length}
 use Rattle.std.specs.BTreeMap.Range.{entries_between}
 use Rattle.std.specs.List.Sorted.{IsStrictlySortedBy}
 use Rattle.std.specs.Map.{keys_of}
@@ -31,3 +31,8 @@ rows_in items p (entry ∷ entries) = row_of p entry (items entry.1) ++ rows_in 
 abbrev pub ListsChildren : Type 0
 ListsChildren = (items : Items) (t : Tree) (index : List (Place × ℕ)) (k : ℕ) (p : Names) → Are items t → IsIndex items (numbers_of index)
     → IsStrictlySortedBy place_cmp (keys_of index) → Walks items 1 p k → rows_in items p (children_in k index) ≡ children t p
+
+-- the folder has as many children as entries
+abbrev pub CountsChildren : Type 0
+CountsChildren = (items : Items) (t : Tree) (index : List (Place × ℕ)) (k : ℕ) (p : Names) → Are items t → IsIndex items (numbers_of index)
+    → IsStrictlySortedBy place_cmp (keys_of index) → Walks items 1 p k → length (children t p) ≡ length (children_in k index)
