@@ -1,0 +1,17 @@
+pub mod Parents
+pub mod Making
+pub mod Replacing
+pub mod Removing
+pub mod Dating
+pub mod Moving
+pub mod Changing
+pub mod Weighing
+pub mod Entries
+pub mod Walking
+pub mod Reading
+pub mod Avoiding
+pub mod Finding
+pub mod Indexing
+pub mod Loading
+pub mod Counting
+pub mod Ranges
