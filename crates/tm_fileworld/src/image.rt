@@ -1,7 +1,6 @@
 //! An image in a file.
-ghost use Rattle.std.specs.Prelude.{◌≡◌, ◌≤◌, ◌<◌, ◌*◌, IfOk, OnOk, OnErr, IfSome, IsSome, OnSome, Some};
+ghost use Rattle.std.specs.Prelude.{◌≡◌, ◌≤◌, IfOk, IsSome, OnOk, OnSome};
 ghost use Rattle.std.specs.Option.{ForSome};
-ghost use Rattle.std.specs.Io.KnownBytes.{Keeps};
 ghost use Rattle.std.specs.Io.Seek.{MovesTo};
 ghost use Rattle.tm_fileworld.specs.Blocks.{most_blocks, whole_blocks, first_byte};
 ghost use Rattle.tm_fileworld.specs.Places.{ReadsAt, WritesAt};
@@ -34,7 +33,7 @@ fn whole_blocks(bytes: u64) -> u32
     (bytes / BLOCK).min(MOST_BLOCKS) as u32
 }
 
-// Where a block begins in its file. So many bytes have so many blocks.
+// Where a block begins in its file; also how many bytes so many blocks have.
 fn first_byte(block: u32) -> u64
     ensures { result ≡ first_byte block }
 {

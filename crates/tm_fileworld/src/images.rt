@@ -3,7 +3,7 @@ ghost use Rattle.std.specs.Prelude.{◌≡◌, ◌≢◌, ◌<◌, ◌≤◌, No
 ghost use Rattle.tm_world.specs.declared.world.Side.{Side};
 ghost use Rattle.tm_fileworld.specs.Blocks.{most_blocks, first_byte};
 ghost use Rattle.tm_fileworld.specs.Places.{ReadsAt, WritesAt, OnFile};
-ghost use Rattle.tm_fileworld.specs.Images.{blocks_of_image, file_of_image, blocks_at, file_at, image_at};
+ghost use Rattle.tm_fileworld.specs.Images.{blocks_of_image, blocks_at, file_at, image_at};
 
 use crate::image::Image;
 use std::fs::OpenFile;
