@@ -1,0 +1,13 @@
+mod Counting
+mod Stopping
+mod Owning
+mod Keeping
+mod Preparing
+mod Standing
+mod Finishing
+mod Removing
+mod Staging
+mod Retagging
+mod Finding
+mod Claiming
+mod Loading

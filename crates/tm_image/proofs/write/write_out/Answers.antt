@@ -1,0 +1,36 @@
+use Rattle.tm_image.proofs.Stopping.{gate_still, table_of, whole_of, rest_of, data_of}
+use Rattle.tm_image.proofs.write.write_out.Goals as goal
+
+pub returns-in_err-write_chain-clause-any_moment : goal.returns-in_err-write_chain-clause-any_moment
+returns-in_err-write_chain-clause-any_moment g c told = λ old new rest beside writes.
+    let in_range = c.args.gate.now.in_range in
+    table_of old new _ in_range.0 in_range.1 beside c.args.side _ _ rest c.args.blocks.now _ _ writes (c.write_chain.ensures.any_moment told)
+
+pub turn-requires-clause-gate : goal.turn-requires-clause-gate
+turn-requires-clause-gate g c told =
+    let in_range = c.args.gate.now.in_range in
+    gate_still _ _ _ c.args.blocks.now in_range.0 in_range.1 c.requires.high (c.in_ok-write_chain.ensures.differs told) (c.requires.gate told)
+
+pub returns-in_err-turn-clause-any_moment : goal.returns-in_err-turn-clause-any_moment
+returns-in_err-turn-clause-any_moment g c told = λ old new rest beside writes.
+    let in_range = c.args.gate.now.in_range in
+    let w = c.in_ok-write_chain.ensures in
+    whole_of old new _ in_range.0 in_range.1 beside c.args.side _ _ rest c.args.blocks.now _ _ writes c.requires.as_many (w.any_moment told) (w.differs told) (w.lies told) _ (c.turn.ensures.any_moment told)
+
+pub returns-clause-any_moment : goal.returns-clause-any_moment
+returns-clause-any_moment g c told = λ old new rest beside writes.
+    let in_range = c.args.gate.now.in_range in
+    let w = c.in_ok-write_chain.ensures in
+    whole_of old new _ in_range.0 in_range.1 beside c.args.side _ _ rest c.args.blocks.now _ _ writes c.requires.as_many (w.any_moment told) (w.differs told) (w.lies told) _ (c.turn.ensures.any_moment told)
+
+pub returns-clause-at_rest : goal.returns-clause-at_rest
+returns-clause-at_rest g c told = λ old new rest beside writes.
+    let in_range = c.args.gate.now.in_range in
+    let w = c.in_ok-write_chain.ensures in
+    rest_of old new _ in_range.0 in_range.1 beside c.args.side _ _ rest c.args.blocks.now _ _ writes c.requires.as_many (w.any_moment told) (w.differs told) (w.lies told) _ _ c.in_ok-turn.ensures.named (c.in_ok-turn.ensures.turned told)
+
+pub returns-clause-data : goal.returns-clause-data
+returns-clause-data g c told = λ old new rest beside writes.
+    let in_range = c.args.gate.now.in_range in
+    let w = c.in_ok-write_chain.ensures in
+    data_of old new _ in_range.0 in_range.1 beside c.args.blocks.now _ _ writes _ _ _ rest (w.differs told) c.requires.as_many (w.lies told) (c.in_ok-turn.ensures.turned told)
