@@ -9,5 +9,7 @@ mod Removing
 mod Staging
 mod Retagging
 mod Finding
+mod Formatting
+mod First
 mod Claiming
 mod Loading

@@ -6,3 +6,4 @@ pub mod Room
 pub mod Commit
 pub mod Claim
 pub mod Load
+pub mod Blank

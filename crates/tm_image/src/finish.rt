@@ -13,7 +13,7 @@ ghost use Rattle.tm_image.specs.Seen.{content_of, IsSettled, IsSound};
 ghost use Rattle.tm_image.specs.Room.{HasRoom};
 ghost use Rattle.tm_image.specs.Commit.{IsFor, IsCovered, IsFinished, next_content, released, released_len};
 
-use crate::write::write_out;
+use crate::write::{first_block, write_out};
 use crate::{Image, Prepared};
 use tm_blockmap::BlockMap;
 use tm_gate::Root;
@@ -33,14 +33,6 @@ fn give_log(map: &mut BlockMap, log: &[Undo])
             map.give_all(old.blocks.as_slice());
         }
     }
-}
-
-/// The first of these blocks.
-fn first_block(blocks: &[u32]) -> u32
-    requires { 0 < length blocks.now }
-    ensures { result ≡ slice_index blocks.now 0 }
-{
-    blocks[0]
 }
 
 impl Image {

@@ -5,6 +5,7 @@
 //! records and tag or the new. Blobs are staged before the commit that takes them up.
 #![tactic(auto)]
 
+mod blank;
 mod commit;
 mod error;
 mod finish;

@@ -1,3 +1,8 @@
+use Rattle.std.proofs.Common.{sym, subst}
+use Rattle.tm_world.specs.Outside.{disk}
+use Rattle.tm_world.specs.Log.{now}
+use Rattle.tm_image.specs.Content.{IsAtRest}
+use Rattle.tm_image.proofs.Formatting.{table_run, whole_run, first_rest, first_lies, first_turning, first_turned}
 use Rattle.tm_image.proofs.Stopping.{gate_still, table_of, whole_of, rest_of, data_of}
 use Rattle.tm_image.proofs.write.write_out.Goals as goal
 
@@ -34,3 +39,30 @@ returns-clause-data g c told = λ old new rest beside writes.
     let in_range = c.args.gate.now.in_range in
     let w = c.in_ok-write_chain.ensures in
     data_of old new _ in_range.0 in_range.1 beside c.args.blocks.now _ _ writes _ _ _ rest (w.differs told) c.requires.as_many (w.lies told) (c.in_ok-turn.ensures.turned told)
+
+pub returns-in_err-write_chain-clause-first_moment : goal.returns-in_err-write_chain-clause-first_moment
+returns-in_err-write_chain-clause-first_moment g c told = λ new first lacks writes.
+    let in_range = c.args.gate.now.in_range in
+    table_run new _ in_range.0 in_range.1 c.args.blocks.now c.requires.high c.args.side _ _ (c.requires.gate told) lacks (c.write_chain.ensures.any_moment told)
+
+pub returns-in_err-turn-clause-first_moment : goal.returns-in_err-turn-clause-first_moment
+returns-in_err-turn-clause-first_moment g c told = λ new first lacks writes.
+    let in_range = c.args.gate.now.in_range in
+    let w = c.in_ok-write_chain.ensures in
+    whole_run new _ in_range.0 in_range.1 c.args.blocks.now c.requires.high c.args.side _ _ (c.requires.gate told) lacks _ (w.any_moment told) (w.differs told) first
+    (first_lies new _ _ _ writes (disk c.args.side (now (g.W.World.log c.write_chain.new.world))) c.requires.as_many (w.lies told)) (first_turning new _ _ _ writes c.args.side _ _ _ _ (c.turn.ensures.any_moment told))
+
+pub returns-clause-first_moment : goal.returns-clause-first_moment
+returns-clause-first_moment g c told = λ new first lacks writes.
+    let in_range = c.args.gate.now.in_range in
+    let w = c.in_ok-write_chain.ensures in
+    whole_run new _ in_range.0 in_range.1 c.args.blocks.now c.requires.high c.args.side _ _ (c.requires.gate told) lacks _ (w.any_moment told) (w.differs told) first
+    (first_lies new _ _ _ writes (disk c.args.side (now (g.W.World.log c.write_chain.new.world))) c.requires.as_many (w.lies told)) (first_turning new _ _ _ writes c.args.side _ _ _ _ (c.turn.ensures.any_moment told))
+
+pub returns-clause-first_at_rest : goal.returns-clause-first_at_rest
+returns-clause-first_at_rest g c told = λ new first writes.
+    let in_range = c.args.gate.now.in_range in
+    let w = c.in_ok-write_chain.ensures in
+    subst (λ n. IsAtRest new n (disk c.args.side (now (g.W.World.log c.turn.new.world)))) (sym c.in_ok-turn.ensures.named)
+    (first_rest new _ in_range.0 in_range.1 c.args.blocks.now c.requires.high _ _ (c.requires.gate told) (w.differs told) first
+    (first_lies new _ _ _ writes (disk c.args.side (now (g.W.World.log c.write_chain.new.world))) c.requires.as_many (w.lies told)) _ (first_turned new _ _ _ writes _ _ _ (c.in_ok-turn.ensures.turned told)))
