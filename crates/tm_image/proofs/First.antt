@@ -80,10 +80,10 @@ blank_gate d named blank is = record { selected = is; holds = refl; selector_sta
 insert_some : (es : Records) (k : ℕ) (v : Record) → insert_entry nat_cmp es k v ≢ []
 insert_some [] k v is = cc
 insert_some (e ∷ es) k v is = elim (nat_cmp k e.0) as (λ r. match_ordering r ((k, v) ∷ e ∷ es) ((e.0, v) ∷ es) (e ∷ insert_entry nat_cmp es k v) ≡ [] → ⊥) [
-    | Less ↦ λ h. cc
-    | Equal ↦ λ h. cc
-    | Greater ↦ λ h. cc
-  ] is
+  | Less ↦ λ h. cc
+  | Equal ↦ λ h. cc
+  | Greater ↦ λ h. cc
+] is
 
 stays_some : (ps : List Put) (es : Records) → es ≢ [] → with_puts ps es ≢ []
 stays_some [] es some = some

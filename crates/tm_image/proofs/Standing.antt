@@ -10,8 +10,9 @@ use Rattle.std.proofs.lemmas.Bool.{cases_lt}
 use Rattle.std.proofs.lemmas.List.{get_or_default}
 use Rattle.std.proofs.lemmas.List.Sums.{sum_by-cons}
 use Rattle.std.proofs.lemmas.Map.Keys.{sorted_head, sorted_tail}
-use Rattle.tm_world.specs.Disk.{Disk, Image}
+use Rattle.tm_world.specs.Disk.{Disk, Image, IsLeft}
 use Rattle.tm_world.specs.declared.world.Side.{Side}
+use Rattle.tm_gate.specs.Selector.{named_by}
 use Rattle.tm_gate.specs.Root.{IsRoot}
 use Rattle.tm_gate.specs.Tag.{IsTag}
 use Rattle.tm_blockmap.specs.Counts.{times}
@@ -21,11 +22,13 @@ use Rattle.tm_records.specs.declared.record.Record.{Record}
 use Rattle.tm_records.specs.declared.log.Undo.{Undo}
 use Rattle.tm_records.specs.Records.{Records}
 use Rattle.tm_table.specs.Good.{IsAbove, AreRecords}
-use Rattle.tm_image.specs.Content.{Content, in_data, Holds, LeavesSame, LeavesEither}
+use Rattle.tm_image.specs.Content.{Content, IsAtRest, in_data, Holds, LeavesSame, LeavesEither}
 use Rattle.tm_image.specs.Reads.{kept, data_len, entry_of, entries_of, IsGood, Reads, LeavesRead, LeavesOneOf}
-use Rattle.tm_image.specs.Seen.{Seen, IsSound, IsKept, IsSettled, content_of}
+use Rattle.tm_image.specs.Seen.{Seen, IsSound, IsKept, IsSettled, Stands, content_of}
 use Rattle.tm_image.specs.Room.{HasRoom}
 use Rattle.tm_image.specs.Commit.{IsFor, next_content, next_root, released_len}
+use Rattle.tm_image.proofs.Counting.{LiesAt-same}
+use Rattle.tm_table.specs.Text.{table_text}
 use Rattle.tm_image.proofs.Owning.{bounded, kept_low}
 
 below : (x y : ℕ) → nat_cmp x y ≡ Less → x < y
@@ -161,3 +164,18 @@ leaves_one_of side old new data_bytes good_old each_old good_new each_new d leav
     (λ (holds : Holds old data_bytes image). inl (reads side old data_bytes image good_old each_old holds))
     (λ (holds : Holds new data_bytes image). inr (reads side new data_bytes image good_new each_new holds))
     (leaves image left)
+
+-- a content at rest is held by whatever a stop leaves
+pub rest_leaves : (c : Content) (named : ℕ) (d : Disk) → IsAtRest c named d → LeavesSame c d.bytes d
+rest_leaves c named d rest image left =
+    let named_is : named_by (image.bytes 0) ≡ named = ap named_by (left.stable 0 rest.gate.selector_stable) ∙ rest.gate.selected in
+    record {
+      count = left.count ∙ rest.count;
+      slot = ap image.bytes named_is ∙ left.stable named rest.gate.slot_stable ∙ rest.gate.holds;
+      table = LiesAt-same c.layout (table_text c.records) d.bytes image.bytes (λ b some. left.stable b (rest.stable b (omega arith))) rest.table;
+      each = λ b some. left.stable b (rest.stable b (omega arith));
+    }
+
+-- so what stands is what a stop leaves
+pub stands_reads : (m : Seen) (d : Disk) → IsSound m → IsSettled m → HasRoom m → Stands m d → LeavesRead m.side (entries_of d.bytes m.records) m.root.tag d
+stands_reads m d sound settled room rest = leaves_read m.side (content_of m) d.bytes (good m sound settled room) sound.each d (rest_leaves (content_of m) m.named d rest)

@@ -7,7 +7,7 @@ use Rattle.tm_records.specs.declared.record.Body.{Body}
 use Rattle.tm_records.specs.declared.record.Body.TheVariants.{Kept, Empty, New}
 use Rattle.tm_records.specs.declared.log.Undo.{Undo}
 use Rattle.tm_records.specs.Records.{Records, at}
-use Rattle.tm_records.specs.Puts.{CanPut, with_puts}
+use Rattle.tm_records.specs.Puts.{CanPut, with_puts, brought}
 use Rattle.tm_records.specs.Removes.{without}
 use Rattle.tm_records.specs.Undo.{let_go}
 use Rattle.tm_table.specs.Text.{table_text}
@@ -26,6 +26,10 @@ changed remove put records = without remove (with_puts put records)
 -- how many blocks of data such a commit releases
 abbrev pub released_by : List ℕ → List Put → Records → ℕ
 released_by remove put records = data_len records + brought_len put - data_len (changed remove put records)
+
+-- how often a block stands in the blobs that puts bring
+abbrev pub brought_by : ℕ → List Put → ℕ
+brought_by b puts = sum_by (λ p. times b (brought p.body)) puts
 
 -- a blob has as many blocks as it fills
 abbrev pub IsFilled : Body → Type 0

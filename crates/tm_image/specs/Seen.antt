@@ -56,6 +56,15 @@ pub record IsSound (m : Seen) : Type 0 where
   pub first : m.root.first ≡ first_of m.layout
   pub many : length (places m.layout) ≡ blocks_for m.root.table_len
 
+-- but for which blocks are used all is as it was
+pub record HasSameImage (old new : Seen) : Type 0 where
+  pub side : new.side ≡ old.side
+  pub records : new.records ≡ old.records
+  pub layout : new.layout ≡ old.layout
+  pub root : new.root ≡ old.root
+  pub named : new.named ≡ old.named
+  pub size : length new.used ≡ length old.used
+
 -- no commit is under way: the root names a text as long as that of the records
 abbrev pub IsSettled : Seen → Type 0
 IsSettled m = m.root.table_len ≡ length (table_text m.records)

@@ -57,7 +57,9 @@ impl Image {
         ensures data { W.told → OnOk result ((old : Content) → IsAtRest old self.old.named (disk self.old.side (now (W.log world.old))) → IsCovered old self.old prepared.log.items
             → (b : ℕ) → 0 < in_data b self.old.records → (disk self.old.side (now (W.log world.new))).bytes b ≡ (disk self.old.side (now (W.log world.old))).bytes b) }
         ensures sound { IsSound self.old }
+        ensures sound_after { IsSound self.new }
         ensures ok { OnOk result (IsFinished self.old self.new prepared.text.items prepared.blocks.items prepared.log.items tag) }
+        ensures count { OnOk result (sum self.new.used + length self.old.layout + released_len prepared.log.items ≡ sum self.old.used) }
         ensures settled { OnOk result (IsSettled self.new) }
         ensures space { OnOk result (HasRoom self.new) }
         ensures err { OnErr result (self.new ≡ self.old) }

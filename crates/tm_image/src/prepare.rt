@@ -1,19 +1,19 @@
 //! Preparing a commit.
 ghost use Rattle.std.specs.Prelude.{◌≡◌, ◌≢◌, ◌+◌, ◌-◌, ◌^◌, ◌<◌, ◌≤◌, ℕ, [], OnOk, OnErr, IfOk, Err, length, slice_index, sum};
-ghost use Rattle.std.specs.List.{sum_by, All};
+ghost use Rattle.std.specs.List.{All};
 ghost use Rattle.std.specs.List.Sorted.{IsStrictlyIncreasing};
 ghost use Rattle.tm_blockmap.specs.Marks.{AreMarks};
 ghost use Rattle.tm_blockmap.specs.Counts.{times};
 ghost use Rattle.tm_blockmap.specs.Takes.{Takes};
-ghost use Rattle.tm_records.specs.Puts.{brought};
 ghost use Rattle.tm_records.specs.Removes.{without};
 ghost use Rattle.tm_table.specs.Text.{table_text};
 ghost use Rattle.tm_image.specs.Layout.{places, blocks_for};
+ghost use Rattle.tm_image.specs.Content.{in_data};
 ghost use Rattle.tm_image.specs.Reads.{data_len, blocks_of};
 ghost use Rattle.tm_records.specs.Records.{at};
 ghost use Rattle.tm_image.specs.Seen.{staged, content_of, IsSettled, IsSound};
-ghost use Rattle.tm_image.specs.Room.{need_of, free_of, table_len, HasRoom};
-ghost use Rattle.tm_image.specs.Commit.{changed, released_by, released_len, IsPut, IsFor, IsCovered};
+ghost use Rattle.tm_image.specs.Room.{brought_len, need_of, free_of, table_len, HasRoom};
+ghost use Rattle.tm_image.specs.Commit.{changed, brought_by, released_by, released, released_len, IsPut, IsFor, IsCovered};
 
 use crate::{Image, ImageError};
 use std::alloc::Global;
@@ -129,7 +129,7 @@ impl Image {
         requires space { HasRoom self.old }
         requires rising { IsStrictlyIncreasing changes.remove.items }
         requires put { All (IsPut self.old.records) changes.put.items }
-        requires staged { (b : ℕ) → sum_by (λ p. times b (brought p.body)) changes.put.items ≤ staged b self.old }
+        requires staged { (b : ℕ) → brought_by b changes.put.items ≤ staged b self.old }
         requires some { changed changes.remove.items changes.put.items self.old.records ≢ [] }
         ensures records { OnOk result (self.new.records ≡ changed changes.remove.items changes.put.items self.old.records) }
         ensures same { OnOk result ((self.new.side ≡ self.old.side) × (self.new.layout ≡ self.old.layout) × (self.new.root ≡ self.old.root) × (self.new.named ≡ self.old.named)) }
@@ -138,6 +138,10 @@ impl Image {
         ensures sound { IsSound self.old }
         ensures size { length self.new.used ≡ length self.old.used }
         ensures lowest { IfOk result (λ p. Takes p.blocks.items self.old.used self.new.used) }
+        ensures used { IfOk result (λ p. (b : ℕ) → slice_index self.new.used b ≡ slice_index self.old.used b + times b p.blocks.items) }
+        ensures count { IfOk result (λ p. sum self.new.used ≡ sum self.old.used + length p.blocks.items) }
+        ensures balance { IfOk result (λ p. (b : ℕ) → in_data b self.new.records + released b p.log.items ≡ in_data b self.old.records + brought_by b changes.put.items) }
+        ensures balance_len { IfOk result (λ p. data_len self.new.records + released_len p.log.items ≡ data_len self.old.records + brought_len changes.put.items) }
         ensures full { (need free : ℕ) → result ≡ Err (ImageError.Full need free) → (free < need) × (free ≡ free_of self.old)
             × (need ≡ need_of (table_len self.old.records) (table_len (changed changes.remove.items changes.put.items self.old.records)) (released_by changes.remove.items changes.put.items self.old.records)) }
         ensures fits { OnOk result (need_of (table_len self.old.records) (table_len (changed changes.remove.items changes.put.items self.old.records)) (released_by changes.remove.items changes.put.items self.old.records) ≤ free_of self.old) }

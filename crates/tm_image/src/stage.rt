@@ -8,7 +8,7 @@ ghost use Rattle.tm_blockmap.specs.Counts.{times};
 ghost use Rattle.tm_blockmap.specs.Takes.{Takes};
 ghost use Rattle.tm_chain.specs.Blob.{FillsOn, blob_len};
 ghost use Rattle.tm_image.specs.Reads.{LeavesRead, entries_of};
-ghost use Rattle.tm_image.specs.Seen.{Stands, staged, IsSettled};
+ghost use Rattle.tm_image.specs.Seen.{Stands, staged, HasSameImage, IsSound, IsSettled};
 ghost use Rattle.tm_image.specs.Room.{free_of, table_len, HasRoom};
 
 use crate::{Image, ImageError};
@@ -33,13 +33,15 @@ impl Image {
         ensures many { IfOk result (λ blob. length blob.blocks ≡ (blob.length + 4095) / 4096) }
         ensures lowest { IfOk result (λ blob. Takes blob.blocks self.old.used self.new.used) }
         ensures staged { IfOk result (λ blob. (b : ℕ) → staged b self.new ≡ staged b self.old + times b blob.blocks) }
-        ensures same { (self.new.side ≡ self.old.side) × (self.new.records ≡ self.old.records) × (self.new.layout ≡ self.old.layout) × (self.new.root ≡ self.old.root) × (self.new.named ≡ self.old.named) }
-        ensures size { length self.new.used ≡ length self.old.used }
+        ensures same { HasSameImage self.old self.new }
+        ensures free { IfOk result (λ blob. free_of self.new + length blob.blocks ≡ free_of self.old) }
+        ensures sound { IsSound self.new }
         ensures settled { IsSettled self.new }
         ensures space { OnOk result (HasRoom self.new) }
         ensures full { (need free : ℕ) → result ≡ Err (ImageError.Full need free) → (free < need) × (free ≡ free_of self.old) × (need ≡ blob_len (length bytes.now) + table_len self.old.records) }
         ensures fits { OnOk result (blob_len (length bytes.now) + table_len self.old.records ≤ free_of self.old) }
         ensures err { OnErr result (result ≢ Err ImageError.Fault → self.new ≡ self.old) }
+        ensures untouched { OnErr result (result ≢ Err ImageError.Fault → world.new ≡ world.old) }
         ensures blocks { W.blocks world.new ≡ W.blocks world.old }
         ensures never_less { NeverLess (W.faults world.old) (W.faults world.new) }
         ensures fault { IsErrOf result ImageError.Fault → Rose (W.faults world.old (part_of self.old.side)) (W.faults world.new (part_of self.old.side)) }
@@ -58,14 +60,25 @@ impl Image {
         })
     }
 
+    /// Gives staged blocks back, which are free afterwards.
+    pub(crate) fn give_back(&mut self, blocks: &[u32])
+        requires staged { (b : ℕ) → times b blocks.now ≤ staged b self.old }
+        ensures staged { (b : ℕ) → staged b self.new + times b blocks.now ≡ staged b self.old }
+        ensures free { free_of self.new ≡ free_of self.old + length blocks.now }
+        ensures same { HasSameImage self.old self.new }
+        ensures sound { IsSound self.new }
+    {
+        self.map.give_all(blocks);
+    }
+
     /// Gives a staged blob back: its blocks are free afterwards. It takes no memory.
     pub fn unstage(&mut self, blob: Blob)
         requires staged { (b : ℕ) → times b blob.blocks ≤ staged b self.old }
         ensures staged { (b : ℕ) → staged b self.new + times b blob.blocks ≡ staged b self.old }
         ensures free { free_of self.new ≡ free_of self.old + length blob.blocks }
-        ensures same { (self.new.side ≡ self.old.side) × (self.new.records ≡ self.old.records) × (self.new.layout ≡ self.old.layout) × (self.new.root ≡ self.old.root) × (self.new.named ≡ self.old.named) }
-        ensures size { length self.new.used ≡ length self.old.used }
+        ensures same { HasSameImage self.old self.new }
+        ensures sound { IsSound self.new }
     {
-        self.map.give_all(blob.blocks.as_slice());
+        self.give_back(blob.blocks.as_slice());
     }
 }

@@ -46,6 +46,18 @@ invariant_of-self-2 g c =
     (λ b. omega (arith, c.give_log.ensures.marks b, ap (released b) c.deref-5.ensures.value)) c.give_log.ensures.size (omega (arith, c.give_log.ensures.count, ap released_len c.deref-5.ensures.value)) c.args.tag c.write_out.new.gate.named
     (subst (λ (s : Seen). IsTag s.side c.args.tag) (sym c.self.view_is) c.requires.tag) c.write_out.new.gate.in_range.0 c.write_out.new.gate.in_range.1)
 
+pub returns-clause-sound_after : goal.returns-clause-sound_after
+returns-clause-sound_after g c =
+    let m : Seen = record { side = c.self.inside.side; records = c.self.inside.records.entries; used = c.self.inside.map; layout = c.self.inside.table.items; root = c.self.inside.gate.root; named = c.self.inside.gate.named } in
+    let ready : IsFor c.args.prepared.text.items c.args.prepared.blocks.items c.args.prepared.log.items m = subst (IsFor c.args.prepared.text.items c.args.prepared.blocks.items c.args.prepared.log.items) (sym c.self.view_is) c.requires.ready in
+    let first : c.first_block.result ≡ get_or c.args.prepared.blocks.items 0 0 = c.first_block.ensures ∙ ap (λ (bs : List ℕ). get_or bs 0 0) c.deref.ensures.value in
+    let root = root_is c.self.inside.gate.root c.args.prepared.text.items c.args.prepared.blocks.items c.args.tag c.first_block.result c.len.result first (omega (arith, c.len.ensures, c.args.prepared.text.ok)) in
+    subst (λ (r : Root). IsSound (record { side = c.self.inside.side; records = c.self.inside.records.entries; used = c.give_log.new.map; layout = c.args.prepared.blocks.items; root = r; named = c.write_out.new.gate.named }))
+    (sym (c.in_ok-write_out.ensures.root ∙ root))
+    (sound_after m c.self.invariant _ _ _ ready c.give_all.new.self c.give_log.new.map (subst (λ bs. Gives bs c.self.inside.map c.give_all.new.self) c.deref-4.ensures.value c.give_all.ensures)
+    (λ b. omega (arith, c.give_log.ensures.marks b, ap (released b) c.deref-5.ensures.value)) c.give_log.ensures.size (omega (arith, c.give_log.ensures.count, ap released_len c.deref-5.ensures.value)) c.args.tag c.write_out.new.gate.named
+    (subst (λ (s : Seen). IsTag s.side c.args.tag) (sym c.self.view_is) c.requires.tag) c.write_out.new.gate.in_range.0 c.write_out.new.gate.in_range.1)
+
 pub returns-clause-any_moment : goal.returns-clause-any_moment
 returns-clause-any_moment g c told =
     let m : Seen = record { side = c.self.inside.side; records = c.self.inside.records.entries; used = c.self.inside.map; layout = c.self.inside.table.items; root = c.self.inside.gate.root; named = c.self.inside.gate.named } in

@@ -2,6 +2,8 @@ use Rattle.std.proofs.Common.{◌≡◌, ◌≤◌, ◌<◌, ◌+◌, ◌-◌, �
 use Rattle.std.specs.List.{sum, sum_by, All}
 use Rattle.std.specs.Map.{keys_of, values_of}
 use Rattle.tm_blockmap.specs.Counts.{times}
+use Rattle.tm_blockmap.proofs.Counting.{hit}
+use Rattle.tm_image.specs.Content.{in_data}
 use Rattle.tm_records.specs.Records.{Records}
 use Rattle.tm_records.specs.Puts.{brought, with_puts}
 use Rattle.tm_records.specs.Removes.{without}
@@ -113,3 +115,9 @@ returns-clause-full c = λ need free is.
       omega (arith, f.1, ap (λ (s : Seen). length s.used) c.self.view_is, ap (λ (s : Seen). sum s.used) c.self.view_is),
       omega (arith, f.2, c.len-3.ensures, c.self.inside.table.ok, ap released_len c.deref-2.ensures.value, t, r, ap table_len records, ap data_len records, ap (λ (s : Seen). data_len s.records) c.self.view_is),
     )
+
+pub returns-in-Ok-clause-balance : goal.returns-in-Ok-clause-balance
+returns-in-Ok-clause-balance c = λ b. omega (arith, balance_of c (λ x. hit x b), ap (λ (s : Seen). in_data b s.records) c.self.view_is)
+
+pub returns-in-Ok-clause-balance_len : goal.returns-in-Ok-clause-balance_len
+returns-in-Ok-clause-balance_len c = omega (arith, released_is c.self.inside.records.entries c.remove_all.new.records.entries c.remove_all.new.log.items c.args.changes.put.items (balance_of c), ap (λ (s : Seen). data_len s.records) c.self.view_is)
