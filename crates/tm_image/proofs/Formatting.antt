@@ -10,6 +10,7 @@ use Rattle.tm_world.proofs.Going.{Runs-then, Runs-weaker}
 use Rattle.tm_gate.specs.declared.root.Root.{Root}
 use Rattle.tm_gate.specs.Selector.{named_by}
 use Rattle.tm_gate.specs.Slot.{HasMagic, slot_of}
+use Rattle.tm_gate.specs.Load.{IsUnformatted}
 use Rattle.tm_gate.specs.Gate.{IsGate, IsBefore, IsAfter, IsTurned, LeavesOldOrNew}
 use Rattle.tm_chain.specs.Differs.{DiffersIn}
 use Rattle.tm_chain.specs.Chain.{LiesOn, chain_len}
@@ -25,6 +26,9 @@ use Rattle.tm_image.proofs.Stopping.{gate_still}
 -- the same named slot lacks the magic as well
 pub lacks_same : (f g : ℕ → List ℕ) (named : ℕ) → named_by (f 0) ≡ named → named_by (g 0) ≡ named → g named ≡ f named → LacksMagic f → LacksMagic g
 lacks_same f g named sel_f sel_g slot lacks = λ has. lacks (subst HasMagic (ap g sel_g ∙ slot ∙ ap f (sym sel_f)) has)
+
+pub lacks_from : (f : ℕ → List ℕ) (named : ℕ) → IsUnformatted f named → LacksMagic f
+lacks_from f named is = λ has. is.lacks (subst HasMagic (ap f is.selected) has)
 
 module _ (new : Content) (named : ℕ) (low : 1 ≤ named) (high : named ≤ 2) (table : List ℕ) (up : (b : ℕ) → 0 < times b table → 3 ≤ b) where
   off : (b : ℕ) → b ≤ 2 → (k : ℕ) → k < length table → b ≢ get_or table k 0

@@ -13,3 +13,5 @@ mod Formatting
 mod First
 mod Claiming
 mod Loading
+mod Looking
+mod Readings

@@ -12,7 +12,7 @@ use Rattle.tm_world.specs.declared.world.Side.{Side}
 use Rattle.tm_gate.specs.declared.root.Root.{Root}
 use Rattle.tm_gate.specs.Root.{IsRoot}
 use Rattle.tm_blockmap.specs.Marks.{AreMarks}
-use Rattle.tm_blockmap.specs.Counts.{times}
+use Rattle.tm_blockmap.specs.Counts.{times, IsDistinct}
 use Rattle.tm_blockmap.proofs.Counting.{one_other, times-cons, times-append, stands}
 use Rattle.tm_world.specs.Disk.{Disk}
 use Rattle.tm_gate.specs.declared.gate.Gate.{Gate}
@@ -128,6 +128,10 @@ module _ (total : ℕ) where
 
     pub owned_loaded : (m1 m2 m3 : List ℕ) → ((b : ℕ) → get_or m1 b 0 ≡ kept b) → ((b : ℕ) → get_or m2 b 0 ≡ get_or m1 b 0 + times b table) → ((b : ℕ) → get_or m3 b 0 ≡ get_or m2 b 0 + in_data b es) → (b : ℕ) → get_or m3 b 0 ≡ kept b + times b table + in_data b es
     owned_loaded m1 m2 m3 new chain data_blocks b = omega (arith, new b, chain b, data_blocks b)
+
+-- no block is claimed twice
+pub distinct_claims : (table : List ℕ) (es : Records) (used : List ℕ) → ((b : ℕ) → get_or used b 0 ≡ kept b + times b table + in_data b es) → AreMarks used → IsDistinct (claims table es)
+distinct_claims table es used owned marks b = omega (arith, owned b, marks b, times-append b table (flat es), times-flat b es)
 
 -- what was read stands
 pub stands_loaded : (m : Seen) → IsSound m → (d : Disk) (gate : Gate) (text : List ℕ) (n : ℕ) → d.count ≡ length m.used → Shows d.bytes gate → m.root ≡ gate.root → m.named ≡ gate.named

@@ -7,3 +7,5 @@ pub mod Commit
 pub mod Claim
 pub mod Load
 pub mod Blank
+pub mod Lookups
+pub mod Laws

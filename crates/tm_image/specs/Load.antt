@@ -50,6 +50,6 @@ Fails side blocks bytes Chain place = (root : Root) × HasRoot side blocks bytes
 Fails side blocks bytes Table place = (root : Root) × HasRoot side blocks bytes root × (chain : List ℕ) × (text : List ℕ) × IsChain root.first root.table_len blocks chain text bytes × TableBreaksAt blocks text place
 Fails side blocks bytes Pages place = ⊥
 Fails side blocks bytes Block place = (chain : List ℕ) × (records : Records) × HasRecords side blocks bytes chain records × IsClaimedAgain (claims chain records) place
-Fails side blocks bytes Room place = (chain : List ℕ) × (records : Records) × HasRecords side blocks bytes chain records × (place + 3 + length chain + data_len records ≡ blocks) × (place < length chain)
+Fails side blocks bytes Room place = (chain : List ℕ) × (records : Records) × HasRecords side blocks bytes chain records × IsDistinct (claims chain records) × (place + 3 + length chain + data_len records ≡ blocks) × (place < length chain)
 Fails side blocks bytes Record place = ⊥
 Fails side blocks bytes Spent place = ⊥

@@ -10,6 +10,7 @@ mod commit;
 mod error;
 mod finish;
 mod image;
+mod laws;
 mod load;
 mod part;
 mod prepare;
@@ -19,4 +20,5 @@ mod write;
 
 pub use error::{ImageError, LoadError};
 pub use image::Image;
+pub use laws::{blocks_are_shared, changes_by_key, readings_are_one, standing_is_read};
 pub use prepare::{Changes, Prepared};

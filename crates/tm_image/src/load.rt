@@ -5,6 +5,7 @@ ghost use Rattle.std.specs.Map.{values_of};
 ghost use Rattle.tm_world.specs.declared.cause.Cause.{Cause};
 ghost use Rattle.tm_gate.specs.Root.{IsRoot};
 ghost use Rattle.tm_blockmap.specs.Marks.{AreMarks};
+ghost use Rattle.tm_blockmap.specs.Counts.{IsDistinct};
 ghost use Rattle.tm_chain.specs.Chain.{IsBlockList, IsChain};
 ghost use Rattle.tm_table.specs.Good.{AreRecords};
 ghost use Rattle.tm_image.specs.Layout.{blocks_for};
@@ -16,7 +17,8 @@ ghost use Rattle.tm_image.specs.Seen.{staged, IsSound, IsSettled, Stands};
 ghost use Rattle.tm_world.specs.Outside.{disk, part_of};
 ghost use Rattle.tm_world.specs.Log.{now, Steps};
 ghost use Rattle.tm_world.specs.Faults.{NeverLess, Rose};
-ghost use Rattle.tm_gate.specs.Load.{IsUnformatted, IsBadGate, Shows};
+ghost use Rattle.tm_gate.specs.Load.{IsBadGate, Shows};
+ghost use Rattle.tm_image.specs.Blank.{LacksMagic};
 ghost use Rattle.tm_chain.specs.Way.{BreaksAt};
 ghost use Rattle.tm_table.specs.Breaks.{BreaksAt as TableBreaksAt};
 ghost use Rattle.tm_table.specs.Text.{table_text};
@@ -86,7 +88,7 @@ fn build(
     ensures sound { IfOk result IsSound }
     ensures space { IfOk result HasRoom }
     ensures block { (place : ℕ) → result ≡ Err (LoadError.Bad Cause.Block place) → IsClaimedAgain (claims table.items records.entries) place }
-    ensures room { (place : ℕ) → result ≡ Err (LoadError.Bad Cause.Room place) → (place + 3 + length table.items + data_len records.entries ≡ blocks) × (place < length table.items) }
+    ensures room { (place : ℕ) → result ≡ Err (LoadError.Bad Cause.Room place) → IsDistinct (claims table.items records.entries) × (place + 3 + length table.items + data_len records.entries ≡ blocks) × (place < length table.items) }
     ensures causes { (cause : Cause) (place : ℕ) → result ≡ Err (LoadError.Bad cause place) → (cause ≡ Cause.Block) ⊎ (cause ≡ Cause.Room) }
     ensures others { (result ≢ Err LoadError.Unformatted) × (result ≢ Err LoadError.Fault) }
 {
@@ -182,7 +184,7 @@ fn gate_of<W: World>(world: &mut W, side: Side, blocks: u32) -> Result<Gate, Loa
     ensures root { IfOk result (λ gate. IsRoot side blocks gate.root) }
     ensures shows { W.told → IfOk result (Shows (disk side (now (W.log world.old))).bytes) }
     ensures bad { W.told → (cause : Cause) (place : ℕ) → result ≡ Err (LoadError.Bad cause place) → (cause ≡ Cause.Slot) × IsBadGate side blocks (disk side (now (W.log world.old))).bytes place }
-    ensures unformatted { W.told → result ≡ Err LoadError.Unformatted → 3 ≤ blocks → (named : ℕ) × IsUnformatted (disk side (now (W.log world.old))).bytes named }
+    ensures unformatted { W.told → result ≡ Err LoadError.Unformatted → 3 ≤ blocks → LacksMagic (disk side (now (W.log world.old))).bytes }
     ensures small { blocks < 3 → result ≡ Err LoadError.Unformatted }
     ensures steps { W.told → Steps (W.log world.old) (W.log world.new) (now (W.log world.old)) }
     ensures blocks { W.blocks world.new ≡ W.blocks world.old }
@@ -223,7 +225,7 @@ impl Image {
         ensures space { IfOk result HasRoom }
         ensures stands { W.told → ((b : ℕ) → (disk side (now (W.log world.old))).loose b ≡ false) → IfOk result (λ m. Stands m (disk side (now (W.log world.old)))) }
         ensures bad { W.told → (cause : Cause) (place : ℕ) → result ≡ Err (LoadError.Bad cause place) → Fails side blocks (disk side (now (W.log world.old))).bytes cause place }
-        ensures unformatted { W.told → result ≡ Err LoadError.Unformatted → 3 ≤ blocks → (named : ℕ) × IsUnformatted (disk side (now (W.log world.old))).bytes named }
+        ensures unformatted { W.told → result ≡ Err LoadError.Unformatted → 3 ≤ blocks → LacksMagic (disk side (now (W.log world.old))).bytes }
         ensures few { blocks < 3 → result ≡ Err LoadError.Unformatted }
         ensures steps { W.told → Steps (W.log world.old) (W.log world.new) (now (W.log world.old)) }
         ensures blocks { W.blocks world.new ≡ W.blocks world.old }

@@ -3,4 +3,4 @@ mod Leaving
 pub mod Standing
 mod Reading
 mod Growing
-mod OneText
+pub mod OneText

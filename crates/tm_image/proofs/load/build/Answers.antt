@@ -3,7 +3,7 @@ use Rattle.tm_blockmap.specs.Counts.{times}
 use Rattle.tm_image.specs.Claim.{IsRefused}
 use Rattle.tm_image.specs.Load.{IsClaimedAgain, claims}
 use Rattle.tm_image.proofs.Owning.{counted}
-use Rattle.tm_image.proofs.Loading.{kept_marks, within_each, sound_loaded, again_in_table, again_in_data, owned_loaded}
+use Rattle.tm_image.proofs.Loading.{kept_marks, within_each, sound_loaded, again_in_table, again_in_data, owned_loaded, distinct_claims}
 use Rattle.tm_image.proofs.load.build.Goals as goal
 
 pub returns-in-Some-clause-block : goal.returns-in-Some-clause-block
@@ -30,7 +30,7 @@ returns-then-free-len-clause-room c = λ place is.
     let chain : (b : ℕ) → get_or c.claim_list.new.map b 0 ≡ get_or c.in_ok-map.map b 0 + times b c.args.table.items = subst (λ ts. (b : ℕ) → get_or c.claim_list.new.map b 0 ≡ get_or c.in_ok-map.map b 0 + times b ts) c.deref.ensures.value c.in_default.ensures.none in
     let owned = owned_loaded c.args.blocks c.args.side c.args.gate.root c.args.gate.named c.args.table.items c.args.records.entries c.requires.small c.requires.root c.requires.listed c.requires.many c.requires.are c.in_ok-map.map c.claim_list.new.map c.claim_records.new.map new chain c.in_default-claim_records.ensures.none in
     let all = counted c.claim_records.new.map c.args.table.items [] c.args.records.entries (λ b. omega (arith, owned b)) in
-    (omega (arith, all, same, c.free-free.ensures, c.claim_records.ensures.size, c.claim_list.ensures.size, c.in_ok-map.ensures.size), omega (arith, same, c.if-free-len.true, c.len.ensures, c.args.table.ok))
+    (distinct_claims c.args.table.items c.args.records.entries c.claim_records.new.map owned c.claim_records.ensures.marks, omega (arith, all, same, c.free-free.ensures, c.claim_records.ensures.size, c.claim_list.ensures.size, c.in_ok-map.ensures.size), omega (arith, same, c.if-free-len.true, c.len.ensures, c.args.table.ok))
 
 pub invariant_of-result : goal.invariant_of-result
 invariant_of-result c =

@@ -5,12 +5,13 @@ use Rattle.tm_world.specs.Log.{now}
 use Rattle.tm_world.specs.declared.cause.Cause.TheVariants.{Slot}
 use Rattle.tm_gate.specs.Load.{IsBadGate}
 use Rattle.tm_gate.specs.declared.load.GateError.TheVariants.{Unformatted, BadSlot, Fault}
+use Rattle.tm_image.proofs.Formatting.{lacks_from}
 use Rattle.tm_image.proofs.load.gate_of.Goals as goal
 
 pub returns-in-Err-Unformatted-clause-unformatted : goal.returns-in-Err-Unformatted-clause-unformatted
 returns-in-Err-Unformatted-clause-unformatted g c told = λ is least.
     let same : c.load_gate.result ≡ Err (Unformatted c.in-Err-Unformatted.field-0-0) = c.in-Err-Unformatted.is ∙ ap (λ e. Err e) c.in-Err-Unformatted.field-0-is in
-    (c.in-Err-Unformatted.field-0-0, (c.load_gate.ensures.unformatted told least (λ fault. let both : Err (Unformatted c.in-Err-Unformatted.field-0-0) ≡ Err Fault = sym same ∙ fault in cc) c.in-Err-Unformatted.field-0-0).0 same)
+    lacks_from _ _ ((c.load_gate.ensures.unformatted told least (λ fault. let both : Err (Unformatted c.in-Err-Unformatted.field-0-0) ≡ Err Fault = sym same ∙ fault in cc) c.in-Err-Unformatted.field-0-0).0 same)
 
 pub returns-in-Err-BadSlot-clause-bad : goal.returns-in-Err-BadSlot-clause-bad
 returns-in-Err-BadSlot-clause-bad g c told = λ cause place is.

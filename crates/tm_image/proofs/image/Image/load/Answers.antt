@@ -56,7 +56,7 @@ returns-clause-bad g c told = λ cause place is.
     (λ (k : cause ≡ Block). subst (λ (k2 : Cause). Fails c.args.side c.args.blocks d0.bytes k2 place) (sym k)
     (c.in-Ok-to_vec.table.items, c.in-Ok-records_of.records.entries, records, c.in-Err-build.ensures.block place (ap (λ e. Err e) (same ∙ ap (λ (k2 : Cause). Bad k2 place) k))))
     (λ (k : cause ≡ Room). subst (λ (k2 : Cause). Fails c.args.side c.args.blocks d0.bytes k2 place) (sym k)
-    (c.in-Ok-to_vec.table.items, c.in-Ok-records_of.records.entries, records, (c.in-Err-build.ensures.room place (ap (λ e. Err e) (same ∙ ap (λ (k2 : Cause). Bad k2 place) k))).0, (c.in-Err-build.ensures.room place (ap (λ e. Err e) (same ∙ ap (λ (k2 : Cause). Bad k2 place) k))).1))
+    (c.in-Ok-to_vec.table.items, c.in-Ok-records_of.records.entries, records, (c.in-Err-build.ensures.room place (ap (λ e. Err e) (same ∙ ap (λ (k2 : Cause). Bad k2 place) k))).0, (c.in-Err-build.ensures.room place (ap (λ e. Err e) (same ∙ ap (λ (k2 : Cause). Bad k2 place) k))).1, (c.in-Err-build.ensures.room place (ap (λ e. Err e) (same ∙ ap (λ (k2 : Cause). Bad k2 place) k))).2))
     (c.in-Err-build.ensures.causes cause place (ap (λ e. Err e) same))
 
 pub returns-in-Ok-build-clause-stands : goal.returns-in-Ok-build-clause-stands
