@@ -1,5 +1,5 @@
 -- What an image keeps makes a good content, and what a disk holds of it is what an image stands for.
-use Rattle.std.proofs.Common.{◌≡◌, ⊎_elim, inl, inr, ℕ, zero, suc, ◌+◌, ◌/◌, ◌%◌, ◌^◌, ◌<◌, ◌≤◌, List, [], ◌∷◌, length, get_or, map, Option, Some, None, refl, sym, ◌∙◌, ap, subst, arith}
+use Rattle.std.proofs.Common.{◌≡◌, ⊎_elim, inl, inr, ℕ, zero, suc, ◌+◌, ◌*◌, ◌/◌, ◌%◌, ◌^◌, ◌<◌, ◌≤◌, List, [], ◌∷◌, length, get_or, map, Option, Some, None, refl, sym, ◌∙◌, ap, subst, arith}
 use Rattle.std.specs.List.{sum, All, AllByRecursion, range_with_len}
 use Rattle.std.specs.List.Sorted.{IsStrictlySortedBy}
 use Rattle.std.specs.Ordering.{nat_cmp}
@@ -131,11 +131,13 @@ map_same f g from (suc n) same =
     let rest = map_same f g (from + 1) n (λ i lt. same i (omega arith)) in
     λ i. first i ∷ rest i
 
-pub entry_same : (r : Record) (x y : ℕ → List ℕ) → IsKept r → ((b : ℕ) → 0 < times b r.blocks → x b ≡ y b) → entry_of x r ≡ entry_of y r
+pub held_same : (blocks : List ℕ) (x y : ℕ → List ℕ) (n : ℕ) → n ≤ 4096 * length blocks → ((b : ℕ) → 0 < times b blocks → x b ≡ y b) → bytes_in blocks x 0 n ≡ bytes_in blocks y 0 n
 unfolding bytes_in
+held_same blocks x y n within same = map_same (byte_in blocks x) (byte_in blocks y) 0 n (λ i lt. same_byte blocks x y i (same (get_or blocks (i / 4096) 0) (stands blocks (i / 4096) (omega (arith, within)))))
+
+pub entry_same : (r : Record) (x y : ℕ → List ℕ) → IsKept r → ((b : ℕ) → 0 < times b r.blocks → x b ≡ y b) → entry_of x r ≡ entry_of y r
 entry_same r x y kept same =
-    let bytes : bytes_in r.blocks x 0 r.length ≡ bytes_in r.blocks y 0 r.length
-    = map_same (byte_in r.blocks x) (byte_in r.blocks y) 0 r.length (λ i lt. same_byte r.blocks x y i (same (get_or r.blocks (i / 4096) 0) (stands r.blocks (i / 4096) (omega (arith, kept.many))))) in
+    let bytes = held_same r.blocks x y r.length (omega (arith, kept.many)) same in
     λ i. record { meta = r.meta; bytes = bytes i }
 
 pub entries_same : (es : Records) (x y : ℕ → List ℕ) → All IsKept (values_of es) → ((b : ℕ) → 0 < in_data b es → x b ≡ y b) → entries_of x es ≡ entries_of y es

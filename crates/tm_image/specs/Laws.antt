@@ -1,11 +1,13 @@
 -- What every layer above may rely on.
-use Rattle.std.specs.Prelude.{◌≡◌, ◌≤◌, ◌+◌, ℕ, List, length, map, option_map}
+use Rattle.std.specs.Prelude.{◌≡◌, ◌<◌, ◌≤◌, ◌+◌, ◌*◌, ℕ, List, length, map, option_map}
 use Rattle.std.specs.List.Sorted.{IsStrictlySortedBy, IsStrictlyIncreasing}
 use Rattle.std.specs.Ordering.{nat_cmp}
 use Rattle.std.specs.Map.{keys_of}
 use Rattle.tm_world.specs.Disk.{Disk, Image}
 use Rattle.tm_world.specs.declared.world.Side.{Side}
 use Rattle.tm_world.specs.declared.cause.Cause.{Cause}
+use Rattle.tm_blockmap.specs.Counts.{times}
+use Rattle.tm_chain.specs.Blob.{bytes_in}
 use Rattle.tm_records.specs.declared.record.Put.{Put}
 use Rattle.tm_records.specs.Records.{Records, at}
 use Rattle.tm_image.specs.Layout.{places}
@@ -62,6 +64,10 @@ EntryAt = (k : ℕ) (bytes : ℕ → List ℕ) (records : Records) → entry_at 
 abbrev pub EntryChangedAt : Type 0
 EntryChangedAt = (k : ℕ) (bytes : ℕ → List ℕ) (remove : List ℕ) (put : List Put) (records : Records) → IsStrictlySortedBy nat_cmp (keys_of records) → IsStrictlyIncreasing (map (λ p. p.key) put)
     → entry_at k (entries_of bytes (changed remove put records)) ≡ unless_removed k remove (entry_with bytes (put_at k put) (entry_at k (entries_of bytes records)))
+
+-- blocks that hold the same bytes hold the same blob
+abbrev pub BlobStays : Type 0
+BlobStays = (blocks : List ℕ) (old new : ℕ → List ℕ) (count : ℕ) → count ≤ 4096 * length blocks → ((b : ℕ) → 0 < times b blocks → new b ≡ old b) → bytes_in blocks new 0 count ≡ bytes_in blocks old 0 count
 
 -- the table of a settled image has the blocks that its text takes
 abbrev pub TableFits : Type 0

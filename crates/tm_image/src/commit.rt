@@ -87,6 +87,7 @@ impl Image {
         ensures stands { W.told → result ≢ Err ImageError.Fault → Stands self.new (disk self.old.side (now (W.log world.new))) }
         ensures leaves { W.told → OnOk result (LeavesRead self.old.side (entries_of (disk self.old.side (now (W.log world.old))).bytes (changed changes.remove.items changes.put.items self.old.records)) tag (disk self.old.side (now (W.log world.new)))) }
         ensures data { W.told → OnOk result (entries_of (disk self.old.side (now (W.log world.new))).bytes self.new.records ≡ entries_of (disk self.old.side (now (W.log world.old))).bytes self.new.records) }
+        ensures others { W.told → OnOk result ((b : ℕ) → 0 < staged b self.new → (disk self.old.side (now (W.log world.new))).bytes b ≡ (disk self.old.side (now (W.log world.old))).bytes b) }
         ensures records { OnOk result (self.new.records ≡ changed changes.remove.items changes.put.items self.old.records) }
         ensures tag { OnOk result (self.new.root.tag ≡ tag) }
         ensures side { self.new.side ≡ self.old.side }

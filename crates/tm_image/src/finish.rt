@@ -8,6 +8,7 @@ ghost use Rattle.tm_world.specs.Faults.{NeverLess, Rose};
 ghost use Rattle.tm_gate.specs.Gate.{IsGate};
 ghost use Rattle.tm_gate.specs.Tag.{IsTag};
 ghost use Rattle.tm_blockmap.specs.Marks.{AreMarks};
+ghost use Rattle.tm_blockmap.specs.Counts.{times};
 ghost use Rattle.tm_image.specs.Content.{Content, IsAtRest, LeavesEither, in_data};
 ghost use Rattle.tm_image.specs.Seen.{content_of, IsSettled, IsSound};
 ghost use Rattle.tm_image.specs.Room.{HasRoom};
@@ -56,6 +57,7 @@ impl Image {
             → IsAtRest (content_of self.new) self.new.named (disk self.old.side (now (W.log world.new)))) }
         ensures data { W.told → OnOk result ((old : Content) → IsAtRest old self.old.named (disk self.old.side (now (W.log world.old))) → IsCovered old self.old prepared.log.items
             → (b : ℕ) → 0 < in_data b self.old.records → (disk self.old.side (now (W.log world.new))).bytes b ≡ (disk self.old.side (now (W.log world.old))).bytes b) }
+        ensures others { W.told → OnOk result ((b : ℕ) → 3 ≤ b → times b prepared.blocks.items ≡ 0 → (disk self.old.side (now (W.log world.new))).bytes b ≡ (disk self.old.side (now (W.log world.old))).bytes b) }
         ensures sound { IsSound self.old }
         ensures sound_after { IsSound self.new }
         ensures ok { OnOk result (IsFinished self.old self.new prepared.text.items prepared.blocks.items prepared.log.items tag) }

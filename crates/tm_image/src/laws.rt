@@ -1,5 +1,5 @@
 //! What every layer above may rely on.
-ghost use Rattle.tm_image.specs.Laws.{BlocksAreShared, ChangedAt, EntryAt, EntryChangedAt, FailsOrLacks, OneFailure, OneReading, ReadsOrFails, ReadsOrLacks, StandingIsLeft, StandingIsRead, TableFits};
+ghost use Rattle.tm_image.specs.Laws.{BlobStays, BlocksAreShared, ChangedAt, EntryAt, EntryChangedAt, FailsOrLacks, OneFailure, OneReading, ReadsOrFails, ReadsOrLacks, StandingIsLeft, StandingIsRead, TableFits};
 
 /// What stands on a disk is what an image of it stands for, whatever a stop leaves.
 pub fn standing_is_read()
@@ -28,4 +28,9 @@ pub fn changes_by_key()
 pub fn blocks_are_shared()
     ensures table { TableFits }
     ensures shared { BlocksAreShared }
+{}
+
+/// A blob is what its blocks hold, so it stays where they stay.
+pub fn blobs_stay()
+    ensures { BlobStays }
 {}

@@ -20,5 +20,5 @@ mod write;
 
 pub use error::{ImageError, LoadError};
 pub use image::Image;
-pub use laws::{blocks_are_shared, changes_by_key, readings_are_one, standing_is_read};
+pub use laws::{blobs_stay, blocks_are_shared, changes_by_key, readings_are_one, standing_is_read};
 pub use prepare::{Changes, Prepared};

@@ -1,10 +1,12 @@
 //! Reading data.
-ghost use Rattle.std.specs.Prelude.{◌≡◌, ◌≤◌, ◌<◌, ◌+◌, OnOk, OnErr, IfSome, IsSome, length, map};
+ghost use Rattle.std.specs.Prelude.{◌≡◌, ◌≤◌, ◌<◌, ◌+◌, OnOk, OnErr, IfSome, IsSome, length, take, drop};
 ghost use Rattle.tm_world.specs.Outside.{disk, part_of};
 ghost use Rattle.tm_world.specs.Log.{now, Steps};
 ghost use Rattle.tm_world.specs.Faults.{NeverLess, Rose};
 ghost use Rattle.tm_chain.specs.Blob.{bytes_in};
 ghost use Rattle.tm_records.specs.Records.{at};
+ghost use Rattle.tm_image.specs.Reads.{entries_of};
+ghost use Rattle.tm_image.specs.Lookups.{entry_at};
 
 use crate::Image;
 use tm_chain::read_blob;
@@ -24,6 +26,7 @@ impl Image {
         requires there { IsSome (at key self.now.records) }
         requires range { IfSome (at key self.now.records) (λ r. from + length into.old ≤ r.length) }
         ensures bytes { W.told → OnOk result (IfSome (at key self.now.records) (λ r. into.new ≡ bytes_in r.blocks (disk self.now.side (now (W.log world.old))).bytes from (length into.old))) }
+        ensures entry { W.told → OnOk result (IfSome (entry_at key (entries_of (disk self.now.side (now (W.log world.old))).bytes self.now.records)) (λ e. into.new ≡ take (length into.old) (drop from e.bytes))) }
         ensures steps { W.told → Steps (W.log world.old) (W.log world.new) (now (W.log world.old)) }
         ensures blocks { W.blocks world.new ≡ W.blocks world.old }
         ensures never_less { NeverLess (W.faults world.old) (W.faults world.new) }

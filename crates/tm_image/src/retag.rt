@@ -1,12 +1,12 @@
 //! A new tag.
-ghost use Rattle.std.specs.Prelude.{◌≡◌, ◌≤◌, ◌<◌, OnOk, OnErr, length};
+ghost use Rattle.std.specs.Prelude.{◌≡◌, ◌≤◌, ◌<◌, ℕ, OnOk, OnErr, length};
 ghost use Rattle.tm_world.specs.Outside.{disk, part_of};
 ghost use Rattle.tm_world.specs.Log.{now};
 ghost use Rattle.tm_world.specs.Runs.{Runs};
 ghost use Rattle.tm_world.specs.Faults.{NeverLess, Rose};
 ghost use Rattle.tm_gate.specs.Tag.{IsTag};
 ghost use Rattle.tm_image.specs.Reads.{LeavesOneOf, entries_of};
-ghost use Rattle.tm_image.specs.Seen.{Stands, IsSettled};
+ghost use Rattle.tm_image.specs.Seen.{Stands, IsSound, IsSettled};
 ghost use Rattle.tm_image.specs.Room.{HasRoom};
 
 use crate::Image;
@@ -27,8 +27,10 @@ impl Image {
             Runs self.old.side (LeavesOneOf self.old.side (entries_of old.bytes self.old.records) self.old.root.tag (entries_of old.bytes self.old.records) tag) (W.log world.old) (W.log world.new) }
         ensures stands { W.told → OnOk result (Stands self.new (disk self.old.side (now (W.log world.new)))) }
         ensures data { W.told → OnOk result (entries_of (disk self.old.side (now (W.log world.new))).bytes self.old.records ≡ entries_of (disk self.old.side (now (W.log world.old))).bytes self.old.records) }
+        ensures others { W.told → OnOk result ((b : ℕ) → 3 ≤ b → (disk self.old.side (now (W.log world.new))).bytes b ≡ (disk self.old.side (now (W.log world.old))).bytes b) }
         ensures tag { OnOk result (self.new.root.tag ≡ tag) }
         ensures same { (self.new.side ≡ self.old.side) × (self.new.records ≡ self.old.records) × (self.new.layout ≡ self.old.layout) × (self.new.used ≡ self.old.used) }
+        ensures sound { IsSound self.new }
         ensures settled { IsSettled self.new }
         ensures space { HasRoom self.new }
         ensures err { OnErr result (self.new ≡ self.old) }

@@ -1,12 +1,12 @@
 //! Blobs before the commit that takes them up.
-ghost use Rattle.std.specs.Prelude.{◌≡◌, ◌≢◌, ◌+◌, ◌^◌, ◌<◌, ◌≤◌, ◌/◌, ℕ, OnOk, OnErr, IfOk, IsErrOf, Err, length};
+ghost use Rattle.std.specs.Prelude.{◌≡◌, ◌≢◌, ◌+◌, ◌^◌, ◌<◌, ◌≤◌, ◌/◌, ℕ, OnOk, OnErr, IfOk, IsErrOf, Err, length, slice_index};
 ghost use Rattle.tm_world.specs.Outside.{disk, part_of};
 ghost use Rattle.tm_world.specs.Log.{now};
 ghost use Rattle.tm_world.specs.Runs.{Runs};
 ghost use Rattle.tm_world.specs.Faults.{NeverLess, Rose};
 ghost use Rattle.tm_blockmap.specs.Counts.{times};
 ghost use Rattle.tm_blockmap.specs.Takes.{Takes};
-ghost use Rattle.tm_chain.specs.Blob.{FillsOn, blob_len};
+ghost use Rattle.tm_chain.specs.Blob.{FillsOn, blob_len, bytes_in};
 ghost use Rattle.tm_image.specs.Reads.{LeavesRead, entries_of};
 ghost use Rattle.tm_image.specs.Seen.{Stands, staged, HasSameImage, IsSound, IsSettled};
 ghost use Rattle.tm_image.specs.Room.{free_of, table_len, HasRoom};
@@ -29,6 +29,8 @@ impl Image {
         ensures stands { W.told → Stands self.new (disk self.old.side (now (W.log world.new))) }
         ensures data { W.told → entries_of (disk self.old.side (now (W.log world.new))).bytes self.old.records ≡ entries_of (disk self.old.side (now (W.log world.old))).bytes self.old.records }
         ensures fills { W.told → IfOk result (λ blob. FillsOn blob.blocks bytes.now (disk self.old.side (now (W.log world.new))).bytes) }
+        ensures holds { W.told → IfOk result (λ blob. bytes_in blob.blocks (disk self.old.side (now (W.log world.new))).bytes 0 blob.length ≡ bytes.now) }
+        ensures others { W.told → (b : ℕ) → 0 < slice_index self.old.used b → (disk self.old.side (now (W.log world.new))).bytes b ≡ (disk self.old.side (now (W.log world.old))).bytes b }
         ensures length { IfOk result (λ blob. blob.length ≡ length bytes.now) }
         ensures many { IfOk result (λ blob. length blob.blocks ≡ (blob.length + 4095) / 4096) }
         ensures lowest { IfOk result (λ blob. Takes blob.blocks self.old.used self.new.used) }

@@ -51,6 +51,7 @@ pub(crate) fn write_out<W: World>(
         → Writes new blocks.now text.now (after_root gate.old.root root) → Runs side (LeavesNoneOrHeld new (disk side (now (W.log world.old))).bytes) (W.log world.old) (W.log world.new) }
     ensures first_at_rest { W.told → OnOk result ((new : Content) → IsFirst new (disk side (now (W.log world.old)))
         → Writes new blocks.now text.now (after_root gate.old.root root) → IsAtRest new gate.new.named (disk side (now (W.log world.new)))) }
+    ensures others { W.told → OnOk result ((b : ℕ) → 3 ≤ b → times b blocks.now ≡ 0 → (disk side (now (W.log world.new))).bytes b ≡ (disk side (now (W.log world.old))).bytes b) }
     ensures named { OnOk result (gate.new.named ≡ other_slot gate.old.named) }
     ensures root { OnOk result (gate.new.root ≡ after_root gate.old.root root) }
     ensures gate_err { OnErr result (gate.new ≡ gate.old) }

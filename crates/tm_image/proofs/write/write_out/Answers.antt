@@ -1,4 +1,5 @@
-use Rattle.std.proofs.Common.{sym, subst}
+use Rattle.std.proofs.Common.{◌∙◌, sym, subst, arith}
+use Rattle.tm_blockmap.proofs.Counting.{stands_not}
 use Rattle.tm_world.specs.Outside.{disk}
 use Rattle.tm_world.specs.Log.{now}
 use Rattle.tm_image.specs.Content.{IsAtRest}
@@ -66,3 +67,8 @@ returns-clause-first_at_rest g c told = λ new first writes.
     subst (λ n. IsAtRest new n (disk c.args.side (now (g.W.World.log c.turn.new.world)))) (sym c.in_ok-turn.ensures.named)
     (first_rest new _ in_range.0 in_range.1 c.args.blocks.now c.requires.high _ _ (c.requires.gate told) (w.differs told) first
     (first_lies new _ _ _ writes (disk c.args.side (now (g.W.World.log c.write_chain.new.world))) c.requires.as_many (w.lies told)) _ (first_turned new _ _ _ writes _ _ _ (c.in_ok-turn.ensures.turned told)))
+
+pub returns-clause-others : goal.returns-clause-others
+returns-clause-others g c told = λ b up none.
+    let in_range = c.args.gate.now.in_range in
+    (c.in_ok-turn.ensures.turned told).others b (omega (arith, up)) (omega (arith, up, in_range.0)) ∙ (c.in_ok-write_chain.ensures.differs told).bytes b (stands_not c.args.blocks.now b none)
