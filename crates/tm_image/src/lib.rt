@@ -1,8 +1,8 @@
 //! An image: a map from keys to records with a tag, on the blocks of one side, committed whole.
 //!
-//! Its records lie in a table behind the gate (`docs/FORMATS.md`, "Chains and data", "The table").
-//! A commit writes its table to free blocks and then turns the gate, so that a stop leaves the old
-//! records and tag or the new. Blobs are staged before the commit that takes them up.
+//! Its records lie in a table behind the gate (`docs/FORMATS.md`, "Chain, table and data"). A commit
+//! writes its table to free blocks and then turns the gate, so that a stop leaves the old records and
+//! tag or the new. Blobs are staged before the commit that takes them up.
 #![tactic(auto)]
 
 mod blank;
