@@ -68,6 +68,16 @@ pub enum LoadError {
     Memory,
 }
 
+impl From<Failed> for LoadError {
+    ghost use Rattle.tm_image.specs.declared.error.LoadError.TheVariants.{Fault};
+
+    ghost from_gives = { λ _ e. e ≡ Fault };
+
+    fn from(_failed: Failed) -> LoadError {
+        LoadError::Fault
+    }
+}
+
 impl From<tm_blockmap::Memory> for LoadError {
     ghost use Rattle.tm_image.specs.declared.error.LoadError.TheVariants.{Memory};
 
