@@ -1,7 +1,6 @@
 -- A new image in memory.
-use Rattle.std.proofs.Common.{◌≡◌, ◌≢◌, ⊎_elim, inl, inr, ℕ, suc, ◌+◌, ◌*◌, ◌^◌, ◌<◌, ◌≤◌, List, [], ◌∷◌, length, get_or, refl, sym, ◌∙◌, ap, subst, arith, Option, true, false}
-use Rattle.std.specs.List.{sum, All}
-use Rattle.std.specs.List.Sorted.{IsStrictlySortedBy}
+use Rattle.std.proofs.Common.{◌≡◌, ◌≢◌, ⊎_elim, inl, inr, ℕ, suc, ◌^◌, ◌<◌, ◌≤◌, List, [], ◌∷◌, length, get_or, refl, sym, ◌∙◌, ap, subst, arith, Option, false}
+use Rattle.std.specs.List.{All}
 use Rattle.std.specs.Ordering.{nat_cmp, match_ordering}
 use Rattle.std.specs.declared.cmp.Ordering.TheVariants.{Less, Equal, Greater}
 use Rattle.std.specs.BTreeMap.{insert_entry}
@@ -21,20 +20,17 @@ use Rattle.tm_gate.specs.Gate.{IsGate}
 use Rattle.tm_gate.specs.Fields.{kind_of}
 use Rattle.tm_gate.specs.Root.{IsRoot, after_root}
 use Rattle.tm_gate.specs.Tag.{IsTag}
-use Rattle.tm_blockmap.specs.Marks.{AreMarks}
 use Rattle.tm_blockmap.specs.Counts.{times, IsDistinct}
 use Rattle.tm_blockmap.proofs.Counting.{within_map, stands}
 use Rattle.tm_records.specs.declared.record.Record.{Record}
 use Rattle.tm_records.specs.declared.record.Put.{Put}
 use Rattle.tm_records.specs.declared.record.Body.{Body}
-use Rattle.tm_records.specs.declared.record.Body.TheVariants.{Empty}
 use Rattle.tm_records.specs.Records.{Records, at}
 use Rattle.tm_records.specs.Puts.{CanPut, put_record, with_puts}
-use Rattle.tm_table.specs.Text.{table_text}
 use Rattle.tm_image.specs.Layout.{blocks_for}
 use Rattle.tm_image.specs.Content.{Content, IsAtRest, Writes, in_data, Holds}
-use Rattle.tm_image.specs.Reads.{kept, data_len, entries_of}
-use Rattle.tm_image.specs.Seen.{Seen, IsSound, IsKept, IsSettled, content_of}
+use Rattle.tm_image.specs.Reads.{data_len, entries_of}
+use Rattle.tm_image.specs.Seen.{Seen, IsSound, IsKept, content_of}
 use Rattle.tm_image.specs.Room.{HasRoom}
 use Rattle.tm_image.specs.Blank.{IsDraft, IsFirstPut, IsWithoutData, IsFirst, IsBlank, LeavesNoneOr, LeavesNoneOrHeld, LacksMagic}
 use Rattle.tm_image.proofs.Formatting.{lacks_same}

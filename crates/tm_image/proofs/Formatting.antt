@@ -1,5 +1,5 @@
 -- What a stop leaves while a side is formatted.
-use Rattle.std.proofs.Common.{◌≡◌, ◌≢◌, ⊎_elim, inl, inr, ℕ, ◌-◌, ◌<◌, ◌≤◌, List, length, get_or, refl, sym, ◌∙◌, ap, subst, arith}
+use Rattle.std.proofs.Common.{◌≡◌, ◌≢◌, ⊎_elim, inl, inr, ℕ, ◌-◌, ◌<◌, ◌≤◌, List, length, get_or, sym, ◌∙◌, ap, subst, arith}
 use Rattle.std.proofs.lemmas.Bool.{cases_lt}
 use Rattle.tm_world.specs.Disk.{Disk, Image, IsLeft}
 use Rattle.tm_world.specs.Outside.{disk}
@@ -18,7 +18,7 @@ use Rattle.tm_blockmap.specs.Counts.{times}
 use Rattle.tm_blockmap.proofs.Counting.{stands_not}
 use Rattle.tm_image.specs.Layout.{LiesAt}
 use Rattle.tm_table.specs.Text.{table_text}
-use Rattle.tm_image.specs.Content.{Content, in_data, reached, IsAtRest, Writes}
+use Rattle.tm_image.specs.Content.{Content, reached, IsAtRest, Writes}
 use Rattle.tm_image.specs.Blank.{LacksMagic, IsFirst, LeavesNoneOrHeld}
 use Rattle.tm_image.proofs.Counting.{LiesAt-same}
 use Rattle.tm_image.proofs.Stopping.{gate_still}

@@ -1,6 +1,6 @@
 -- What stands at a key after changes.
-use Rattle.std.proofs.Common.{◌≡◌, ⊎_elim, ℕ, ◌+◌, ◌<◌, ◌≤◌, ◌==◌, List, [], ◌∷◌, length, get_or, map, Option, Some, None, Bool, true, false, ◌||◌, cond, refl, sym, ◌∙◌, ap, subst, arith}
-use Rattle.std.specs.List.{find, list_any, AllByRecursion}
+use Rattle.std.proofs.Common.{◌≡◌, ⊎_elim, ℕ, ◌<◌, ◌≤◌, ◌==◌, List, [], ◌∷◌, map, Option, Some, None, Bool, true, false, ◌||◌, cond, refl, sym, ◌∙◌, ap, subst, arith}
+use Rattle.std.specs.List.{list_any, AllByRecursion}
 use Rattle.std.specs.List.Sorted.{IsStrictlySortedBy, IsStrictlyIncreasing}
 use Rattle.std.specs.Option.{option_map}
 use Rattle.std.specs.Ordering.{nat_cmp, is_eq, match_ordering}
@@ -19,7 +19,7 @@ use Rattle.tm_records.specs.declared.record.Body.TheVariants.{Kept, Empty, New}
 use Rattle.tm_records.specs.Records.{Records, at}
 use Rattle.tm_records.specs.Puts.{put_record, with_puts}
 use Rattle.tm_records.specs.Removes.{without}
-use Rattle.tm_image.specs.Reads.{Entry, Entries, entry_of, entries_of}
+use Rattle.tm_image.specs.Reads.{Entry, entry_of, entries_of}
 use Rattle.tm_image.specs.Commit.{changed}
 use Rattle.tm_image.specs.Lookups.{entry_at, put_at, record_with, body_bytes, entry_with, unless_removed}
 

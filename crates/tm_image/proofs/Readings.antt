@@ -1,11 +1,8 @@
 -- An image has one reading.
-use Rattle.std.proofs.Common.{◌≡◌, ⊎_elim, ℕ, ◌+◌, ◌*◌, ◌^◌, ◌<◌, ◌≤◌, List, [], ◌∷◌, ◌++◌, length, get_or, take, drop, Some, None, min, refl, sym, ◌∙◌, ap, subst, arith, length-append}
-use Rattle.std.specs.List.{flat_map}
-use Rattle.std.specs.Map.{values_of}
+use Rattle.std.proofs.Common.{◌≡◌, ⊎_elim, ℕ, ◌+◌, ◌<◌, ◌≤◌, List, ◌++◌, length, get_or, take, drop, Some, None, refl, sym, ◌∙◌, ap, subst, arith}
 use Rattle.std.proofs.lemmas.Bool.{cases_lt}
-use Rattle.std.proofs.Math.Seq.{take-append-add}
 use Rattle.std.proofs.lemmas.List.{take-append-drop, take-take, length-take, get_or-take}
-use Rattle.tm_world.specs.Disk.{Disk, Image}
+use Rattle.tm_world.specs.Disk.{Image}
 use Rattle.tm_world.specs.declared.world.Side.{Side}
 use Rattle.tm_world.specs.declared.world.Side.TheVariants.{Volume, Store}
 use Rattle.tm_world.specs.declared.cause.Cause.{Cause}
@@ -27,11 +24,10 @@ use Rattle.tm_chain.specs.Way.{BreaksAt as ChainBreaksAt}
 use Rattle.tm_chain.proofs.Ways.{one_chain, chain_or_break, one_break}
 use Rattle.tm_records.specs.Records.{Records}
 use Rattle.tm_table.specs.Text.{table_text}
-use Rattle.tm_table.specs.Good.{AreRecords}
 use Rattle.tm_table.specs.Breaks.{BreaksAt as TableBreaksAt}
 use Rattle.tm_table.proofs.OneText.{table_is_one, table_or_break, break_is_one}
-use Rattle.tm_image.specs.Content.{Content, in_data}
-use Rattle.tm_image.specs.Reads.{Entries, IsGood, Reads, kept, data_len, entries_of}
+use Rattle.tm_image.specs.Content.{Content}
+use Rattle.tm_image.specs.Reads.{Entries, Reads, data_len, entries_of}
 use Rattle.tm_image.specs.Blank.{LacksMagic}
 use Rattle.tm_image.specs.Load.{HasRoot, HasRecords, IsClaimedAgain, claims, Fails}
 use Rattle.tm_image.specs.Laws.{OneFailure, OneReading, FailsOrLacks, ReadsOrFails, ReadsOrLacks}

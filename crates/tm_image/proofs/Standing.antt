@@ -10,7 +10,7 @@ use Rattle.std.proofs.lemmas.Bool.{cases_lt}
 use Rattle.std.proofs.lemmas.List.{get_or_default}
 use Rattle.std.proofs.lemmas.List.Sums.{sum_by-cons}
 use Rattle.std.proofs.lemmas.Map.Keys.{sorted_head, sorted_tail}
-use Rattle.tm_world.specs.Disk.{Disk, Image, IsLeft}
+use Rattle.tm_world.specs.Disk.{Disk, Image}
 use Rattle.tm_world.specs.declared.world.Side.{Side}
 use Rattle.tm_gate.specs.Selector.{named_by}
 use Rattle.tm_gate.specs.Root.{IsRoot}

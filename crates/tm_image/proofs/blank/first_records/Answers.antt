@@ -4,7 +4,7 @@ use Rattle.std.specs.Map.{keys_of, values_of}
 use Rattle.tm_records.specs.Records.{Records}
 use Rattle.tm_records.specs.Puts.{with_puts}
 use Rattle.tm_image.specs.Blank.{IsWithoutData}
-use Rattle.tm_image.proofs.First.{can_first, first_each, first_keys}
+use Rattle.tm_image.proofs.First.{first_each, first_keys}
 use Rattle.tm_image.proofs.blank.first_records.Goals as goal
 
 pub returns-clause-each : goal.returns-clause-each

@@ -1,6 +1,5 @@
-use Rattle.std.proofs.Common.{◌≡◌, ◌≢◌, ◌+◌, ◌-◌, ◌*◌, ◌<◌, ◌≤◌, ◌++◌, ◌∙◌, ℕ, List, [], ◌∷◌, length, replicate, min, sym, ap, subst, arith}
+use Rattle.std.proofs.Common.{◌≡◌, ◌≢◌, ◌-◌, ◌≤◌, ◌++◌, ◌∙◌, ℕ, List, [], replicate, min, sym, ap, subst, arith}
 use Rattle.tm_blockmap.specs.Takes.{Takes}
-use Rattle.tm_table.specs.Text.{table_text}
 use Rattle.tm_image.proofs.First.{kept_each, first_some}
 use Rattle.tm_image.proofs.Keeping.{metas_of}
 use Rattle.tm_image.proofs.Loading.{kept_marks}

@@ -1,21 +1,17 @@
-use Rattle.std.proofs.Common.{◌≡◌, ◌≢◌, ◌<◌, ◌≤◌, ◌∙◌, ℕ, List, [], length, get_or, refl, ap, sym, subst, arith}
+use Rattle.std.proofs.Common.{◌≡◌, ◌<◌, ◌≤◌, ◌∙◌, ℕ, List, [], length, get_or, ap, sym, subst, arith}
 use Rattle.tm_world.specs.Disk.{Disk}
-use Rattle.tm_world.specs.Outside.{Outside, disk}
+use Rattle.tm_world.specs.Outside.{disk}
 use Rattle.tm_world.specs.Log.{Log, now, Steps}
-use Rattle.tm_world.specs.Runs.{Runs}
-use Rattle.tm_world.proofs.Going.{Runs-none, Runs-stays, Runs-then}
+use Rattle.tm_world.proofs.Going.{Runs-none}
 use Rattle.tm_world.specs.declared.world.Side.{Side}
 use Rattle.tm_gate.specs.Gate.{IsGate}
-use Rattle.tm_gate.specs.Selector.{named_by}
 use Rattle.tm_gate.specs.declared.root.Root.{Root}
 use Rattle.tm_blockmap.specs.Counts.{times, IsDistinct}
-use Rattle.tm_records.specs.Records.{Records}
 use Rattle.tm_records.specs.Puts.{with_puts}
-use Rattle.tm_image.specs.Content.{Content, IsAtRest}
-use Rattle.tm_image.specs.Seen.{Seen, IsSound, content_of}
-use Rattle.tm_image.specs.Reads.{entries_of}
-use Rattle.tm_image.specs.Blank.{IsDraft, IsBlank, LacksMagic, LeavesNoneOr, LeavesNoneOrHeld}
-use Rattle.tm_image.proofs.First.{IsFirstRoot, some_block, high, once, within, seen, sound, space, blank_run, blank_rest, read_blank, blank_gate}
+use Rattle.tm_image.specs.Content.{IsAtRest}
+use Rattle.tm_image.specs.Seen.{IsSound}
+use Rattle.tm_image.specs.Blank.{IsDraft}
+use Rattle.tm_image.proofs.First.{IsFirstRoot, some_block, high, once, within, sound, space, blank_run, blank_rest, read_blank, blank_gate}
 use Rattle.tm_image.proofs.image.Image.blank.Goals as goal
 
 pub returns-in_err-records-clause-any_moment : goal.returns-in_err-records-clause-any_moment

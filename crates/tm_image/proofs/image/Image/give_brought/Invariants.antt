@@ -1,4 +1,4 @@
-use Rattle.std.proofs.Common.{◌≡◌, ◌+◌, ℕ, length, take}
+use Rattle.std.proofs.Common.{◌≡◌, ◌+◌, ℕ, take}
 use Rattle.tm_image.specs.Seen.{HasSameImage, IsSound, staged}
 use Rattle.tm_image.specs.Room.{brought_len, free_of}
 use Rattle.tm_image.specs.Commit.{brought_by}
