@@ -1,19 +1,16 @@
 -- What an opened image and its changes are.
-use Rattle.std.proofs.Common.{◌≡◌, ◌≢◌, ◌==◌, ℕ, List, [], ◌∷◌, Option, Some, None, Bool, true, false, ◌||◌, cond, map, length, refl, sym, ◌∙◌, ap, subst, arith, ◌+◌, ◌<◌}
+use Rattle.std.proofs.Common.{◌≡◌, ◌≢◌, ◌==◌, ℕ, [], ◌∷◌, Option, Some, None, Bool, true, false, ◌||◌, cond, refl, sym, ◌∙◌, ap, subst, arith}
 use Rattle.std.proofs.lemmas.Bool.{eq-eqb, ne_eqb}
-use Rattle.std.specs.List.Sorted.{IsStrictlySortedBy, IsStrictlyIncreasing}
+use Rattle.std.specs.List.Sorted.{IsStrictlySortedBy}
 use Rattle.std.specs.Ordering.{nat_cmp}
 use Rattle.std.specs.Map.{keys_of}
 use Rattle.tm_world.specs.Disk.{Disk, synced}
 use Rattle.tm_world.specs.Outside.{disk, put_disk}
 use Rattle.tm_world.specs.Log.{Log, now, Steps}
 use Rattle.tm_world.specs.declared.world.Side.{Side}
-use Rattle.tm_world.specs.declared.world.Side.TheVariants.{Volume}
 use Rattle.tm_world.proofs.Disks.{loose_synced}
 use Rattle.tm_world.proofs.Going.{disk_after}
-use Rattle.tm_codec.specs.Fields.{u64_text}
 use Rattle.tm_gate.specs.Selector.{named_by}
-use Rattle.tm_gate.specs.Tag.{volume_tag, IsVolumeTag}
 use Rattle.tm_records.specs.declared.record.Record.{Record}
 use Rattle.tm_records.specs.declared.record.Put.{Put}
 use Rattle.tm_records.specs.Records.{Records, at}
@@ -37,7 +34,6 @@ some_put : (b c : Bool) (p : Put) (o : Option Record) → b ≡ false → c ≡ 
 some_put true c p o is is2 none = let bad : true ≡ false = is in cc
 some_put false false p o is is2 none = let bad : false ≡ true = is2 in cc
 some_put false true p o is is2 none = cc
-
 
 pub put_stays : ChangedAt → (out : ℕ) (p : Put) (es : Records) → IsStrictlySortedBy nat_cmp (keys_of es) → out ≢ p.key → changed (out ∷ []) (p ∷ []) es ≢ []
 put_stays law out p es sorted apart none =

@@ -23,6 +23,7 @@ use tm_world::{Bytes, Cause, Failed, Side, World};
 /// The tags of a volume of generation 1 whose next number is 1, and 2.
 const FIRST: &[u8; 64] =
     b"\0\0\0\0\0\0\0\0\0\0\0\0\0\0\0\x01\0\0\0\0\0\0\0\x01\0\0\0\0\0\0\0\0\0\0\0\0\0\0\0\0\0\0\0\0\0\0\0\0\0\0\0\0\0\0\0\0\0\0\0\0\0\0\0\0";
+
 const SECOND: &[u8; 64] =
     b"\0\0\0\0\0\0\0\0\0\0\0\0\0\0\0\x01\0\0\0\0\0\0\0\x02\0\0\0\0\0\0\0\0\0\0\0\0\0\0\0\0\0\0\0\0\0\0\0\0\0\0\0\0\0\0\0\0\0\0\0\0\0\0\0\0";
 
@@ -314,7 +315,11 @@ fn a_stop_leaves_the_side_unformatted_or_the_first_image(rt: HostRuntime) -> Res
             world.fuse(calls);
             assert_eq!(rt; format(alloc, &mut world, 1).is_ok(), calls == 10);
             world.stop(&[torn; 4096]);
-            let want = if calls < from { Err(LoadError::Unformatted) } else { Ok(new) };
+            let want = if calls < from {
+                Err(LoadError::Unformatted)
+            } else {
+                Ok(new)
+            };
             assert_eq!(rt; read(alloc, &mut world), want, "{calls} calls, {torn}");
         }
     }
@@ -337,7 +342,11 @@ fn each_check_damaged(rt: HostRuntime) -> Result<(), Fail> {
     ] {
         let mut world = start(alloc, 16).or(Err("starts"))?;
         change(&mut world, block, at, byte)?;
-        assert_eq!(rt; read(alloc, &mut world).err(), Some(want), "{byte} at {at} of {block}");
+        assert_eq!(rt;
+            read(alloc, &mut world).err(),
+            Some(want),
+            "{byte} at {at} of {block}"
+        );
     }
     // Of seven blocks the data of the key 3 take block 4 and the table block 5. Blocks 3 and 6 are data too, so none is free.
     let mut world = zeros(alloc, 7)?;
@@ -367,7 +376,11 @@ fn full_at_its_bound(rt: HostRuntime) -> Result<(), Fail> {
         (6, 5000, Some((4, 3))),
     ] {
         let mut world = zeros(alloc, blocks)?;
-        assert_eq!(rt; format(alloc, &mut world, count).err(), full.map(refusal), "{blocks} blocks");
+        assert_eq!(rt;
+            format(alloc, &mut world, count).err(),
+            full.map(refusal),
+            "{blocks} blocks"
+        );
     }
     // Of sixteen blocks twelve are free, one of which the table keeps.
     for (count, full) in [(45056, None), (45057, Some((13, 12)))] {

@@ -1,4 +1,4 @@
-use Rattle.std.proofs.Common.{◌∙◌, ap, sym, subst}
+use Rattle.std.proofs.Common.{ap, sym, subst}
 use Rattle.tm_world.specs.Disk.{Disk}
 use Rattle.tm_world.specs.Outside.{disk}
 use Rattle.tm_world.specs.Log.{now}

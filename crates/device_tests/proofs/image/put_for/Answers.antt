@@ -1,5 +1,4 @@
-use Rattle.std.proofs.Common.{◌≢◌, [], ◌∷◌, ap, sym, ◌∙◌}
-use Rattle.tm_records.specs.declared.record.Put.{Put}
+use Rattle.std.proofs.Common.{sym, ◌∙◌}
 use Rattle.tm_image.specs.Commit.{changed}
 use Rattle.device_tests.proofs.Images.{put_stays}
 use Rattle.device_tests.proofs.image.put_for.Goals as goal
