@@ -6,4 +6,6 @@ mod chain;
 #[cfg(test)]
 mod gate;
 #[cfg(test)]
+mod image;
+#[cfg(test)]
 mod volume;

@@ -17,7 +17,8 @@ pub fn zeros(alloc: Global, blocks: u32) -> Result<MemWorld, Memory>
 
 /// Attaches the volume.
 pub fn attach<W: World>(world: &mut W) -> Result<u32, Failed>
-    ensures { IfOk result (λ n. W.blocks world.new Side.Volume ≡ n) }
+    ensures blocks { IfOk result (λ n. W.blocks world.new Side.Volume ≡ n) }
+    ensures small { IfOk result (λ n. n ≤ 262144) }
 {
     world.attach(Part::Volume, "v", None)
 }

@@ -1,0 +1,17 @@
+mod Counting
+mod Stopping
+mod Owning
+mod Keeping
+mod Preparing
+mod Standing
+mod Finishing
+mod Removing
+mod Staging
+mod Retagging
+mod Finding
+mod Formatting
+mod First
+mod Claiming
+mod Loading
+mod Looking
+mod Readings

@@ -1,0 +1,11 @@
+pub mod Layout
+pub mod Content
+pub mod Reads
+pub mod Seen
+pub mod Room
+pub mod Commit
+pub mod Claim
+pub mod Load
+pub mod Blank
+pub mod Lookups
+pub mod Laws

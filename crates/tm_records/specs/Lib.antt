@@ -1,0 +1,4 @@
+pub mod Records
+pub mod Puts
+pub mod Removes
+pub mod Undo

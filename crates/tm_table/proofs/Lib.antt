@@ -1,0 +1,6 @@
+mod Writing
+mod Leaving
+pub mod Standing
+mod Reading
+mod Growing
+pub mod OneText

@@ -1,0 +1,4 @@
+pub mod Text
+pub mod Good
+pub mod Breaks
+pub mod Laws
