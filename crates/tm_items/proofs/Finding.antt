@@ -1,8 +1,8 @@
 -- The way down a path by the index.
-use Rattle.std.proofs.Common.{◌≡◌, ℕ, ◌+◌, ◌-◌, ◌<◌, ◌≤◌, ◌==◌, true, false, List, [], ◌∷◌, ◌++◌, length, take, drop, get_or, slice_get, refl, sym, ap, ◌∙◌, subst, Option, Some, None, is_some, Result, Ok, Err, arith, add-one, drop-cons}
+use Rattle.std.proofs.Common.{◌≡◌, ℕ, ◌+◌, ◌-◌, ◌<◌, ◌≤◌, ◌==◌, true, false, List, [], ◌∷◌, ◌++◌, length, take, drop, slice_get, refl, sym, ap, ◌∙◌, subst, Option, Some, None, is_some, Result, Ok, Err, arith, add-one, drop-cons}
 use Rattle.std.proofs.lemmas.Bool.Decides.{nat_tests}
 use Rattle.std.proofs.lemmas.List.{take_more, take_all, drop_all}
-use Rattle.std.proofs.lemmas.Option.{slice_get_within, get_or_from_slice_get, slice_get_read}
+use Rattle.std.proofs.lemmas.Option.{slice_get_within, get_or_from_slice_get}
 use Rattle.tm_base.specs.Paths.{Names, parent_of, is_root}
 use Rattle.tm_base.specs.declared.refused.Refused.{Refused}
 use Rattle.tm_base.specs.declared.refused.Refused.TheVariants.{NotFound, NotFolder}
@@ -92,10 +92,6 @@ walk_stops t done (n ∷ rest) h = rw h
 
 one_name_more : (p : Names) (i : ℕ) (name : List ℕ) → slice_get p i ≡ Some name → take (i + 1) p ≡ take i p ++ name ∷ []
 one_name_more p i name at = take_more p i [] (slice_get_within p i name at) ∙ ap (λ (n : List ℕ). take i p ++ n ∷ []) (get_or_from_slice_get p i name [] at)
-
--- the i-th of the names that a loop goes over
-pub name_at : (names p : Names) (i : ℕ) (name : List ℕ) → names ≡ p → i < length names → name ≡ get_or names i name → slice_get p i ≡ Some name
-name_at names p i name same low is = ap (λ (q : Names). slice_get q i) (sym same) ∙ slice_get_read names (length names) i name refl low is
 
 -- ---- the steps of the way
 

@@ -14,4 +14,3 @@ pub mod Finding
 pub mod Indexing
 pub mod Loading
 pub mod Counting
-pub mod Ranges

@@ -7,7 +7,6 @@ use Rattle.tm_items.specs.Rules.{IsPlaced, IsRoot, RootStands, Keeps, is_root_pl
 use Rattle.tm_items.specs.Places.{at_name, place_of}
 use Rattle.tm_items.specs.Index.{Numbers, IsChildAt, IsLoaded}
 use Rattle.tm_items.specs.Laws.{LoadStarts, LoadSkips, LoadTakes, LoadEnds, RootBreaks, FolderBreaks, DepthBreaks, NameBreaks, PlaceBreaks}
-use Rattle.tm_items.proofs.Reading.{some_of}
 use Rattle.tm_items.proofs.Avoiding.{number_is}
 use Rattle.tm_items.proofs.Indexing.{which, hit, past, not_so, same_place}
 
@@ -116,16 +115,15 @@ pub depth_breaks : DepthBreaks
 depth_breaks items n x two is h keeps = truths (sym h ∙ (keeps.placed x is (off_root n two)).near)
 
 pub name_breaks : NameBreaks
-name_breaks items n x two is h keeps = truths (sym h ∙ (keeps.placed x is (off_root n two)).named)
+name_breaks items n x two is h keeps = truths (ap is_some (sym h) ∙ (keeps.placed x is (off_root n two)).named)
 
 pub place_breaks : PlaceBreaks
-place_breaks items n x numbers loaded two is there keeps =
-    let k = some_of (numbers (place_of x)) there in
-    taken k.0 k.1 x.name refl (loaded.index_is.told (place_of x) k.0 k.1)
+place_breaks items n k x numbers loaded two is at keeps =
+    taken x.name refl (loaded.index_is.told (place_of x) k at)
   where
-    taken : (k : ℕ) → numbers (place_of x) ≡ Some k → (o : Option (List ℕ)) → x.name ≡ o → IsChildAt items x.parent o k → ⊥
-    taken k at None e c = c
-    taken k at (Some name) e c =
+    taken : (o : Option (List ℕ)) → x.name ≡ o → IsChildAt items x.parent o k → ⊥
+    taken None e c = c
+    taken (Some name) e c =
         truths (sym c.not_root ∙ (keeps.placed x is (off_root n two)).first k c.placed (loaded.index_is.low (place_of x) k at) c.is c.parent (c.name ∙ sym e))
 
 -- ---- a number more
@@ -153,7 +151,7 @@ load_skips items n numbers loaded two none = record {
     lower k x low is = same_or_below k n low (not_so (k == n) (λ here. none_some (sym none ∙ ap items (sym (number_is k n here)) ∙ is)))
 
 -- in its place stands no item with a lower number
-alone : (items : Items) (n : ℕ) (x : Placed) (numbers : Numbers) → IsLoaded items n numbers → (o : Option (List ℕ)) → x.name ≡ o → is_some o ≡ true → is_some (numbers (place_of x)) ≡ false
+alone : (items : Items) (n : ℕ) (x : Placed) (numbers : Numbers) → IsLoaded items n numbers → (o : Option (List ℕ)) → x.name ≡ o → is_some o ≡ true → numbers (place_of x) ≡ None
     → (m : ℕ) (y : Placed) → m < n → items m ≡ Some y → y.parent ≡ x.parent → y.name ≡ x.name → (m == 1) ≡ true
 alone items n x numbers loaded None e h free m y low is parent called = truths h
 alone items n x numbers loaded (Some name) e h free m y low is parent called =
@@ -161,7 +159,7 @@ alone items n x numbers loaded (Some name) e h free m y low is parent called =
       | true ↦ λ _. refl
       | false ↦ λ out.
           let at : numbers (at_name x.parent name) ≡ Some m = loaded.index_is.known x.parent m name low (record { placed = y; is = is; parent = parent; name = called ∙ e; not_root = out }) in
-          truths (sym free ∙ ap is_some (ap numbers (same_place (place_of x) (at_name x.parent name) refl e) ∙ at))
+          none_some (sym free ∙ ap numbers (same_place (place_of x) (at_name x.parent name) refl e) ∙ at)
     ] refl
 
 pub load_takes : LoadTakes
@@ -188,7 +186,7 @@ load_takes items n x old new loaded two is folder near named free sets = record 
           ap new (sym (same_place (place_of x) (at_name a name) e f)) ∙ hit (place_of x) (Some n) old new sets ∙ ap Some (sym n_is)
       | false ↦ λ off.
           let known = loaded.index_is.known a k name (same_or_below k n low off) c in
-          past (place_of x) (Some n) old new (at_name a name) sets (λ e. truths (sym free ∙ ap is_some (ap old e ∙ known))) ∙ known
+          past (place_of x) (Some n) old new (at_name a name) sets (λ e. none_some (sym free ∙ ap old e ∙ known)) ∙ known
     ] refl;
   };
 }

@@ -1,6 +1,5 @@
 -- The index of numbered items: the number at each place.
 use Rattle.std.specs.Prelude.{◌≡◌, ℕ, ◌<◌, if◌then◌else◌, Option, Some, None, List}
-use Rattle.std.specs.Map.{lookup}
 use Rattle.std.specs.BTreeMap.{is_at}
 use Rattle.tm_items.specs.declared.place.Place.{Place}
 use Rattle.tm_items.specs.Placings.{Items, IsChild}
@@ -10,9 +9,6 @@ use Rattle.tm_items.specs.Rules.{Keeps}
 -- the number at each place
 abbrev pub Numbers : Type 0
 Numbers = Place → Option ℕ
-
-abbrev pub numbers_of : List (Place × ℕ) → Numbers
-numbers_of index = λ place. lookup (is_at (place_cmp place)) index
 
 abbrev pub IsChildAt : Items → ℕ → Option (List ℕ) → ℕ → Type 0
 IsChildAt items a None k = ⊥

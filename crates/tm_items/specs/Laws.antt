@@ -1,5 +1,5 @@
 -- What holds of numbered items and their index.
-use Rattle.std.specs.Prelude.{◌≡◌, ℕ, ◌+◌, ◌≤◌, ◌<◌, ◌==◌, true, false, is_some, Some, None, Err, List, [], length, slice_get}
+use Rattle.std.specs.Prelude.{◌≡◌, ℕ, ◌+◌, ◌≤◌, ◌<◌, ◌==◌, true, false, is_some, Some, None, Err, List, length, slice_get}
 use Rattle.tm_base.specs.Paths.{Names, parent_of, is_root}
 use Rattle.tm_base.specs.declared.refused.Refused.TheVariants.{NotFound, NotFolder}
 use Rattle.tm_tree.specs.declared.item.Item.{Item}
@@ -11,8 +11,7 @@ use Rattle.tm_items.specs.Rules.{is_folder_placed, is_root_placed, climbs, Keeps
 use Rattle.tm_items.specs.Computed.{Placings, items_of, AreNumbered}
 use Rattle.tm_items.specs.Changes.{date_item, Are, CanPlace, placed_items, replaced_items, CanRemove, removed_items, CanMove, moved_items}
 use Rattle.tm_items.specs.Places.{at_name, place_in, place_of}
-use Rattle.tm_items.specs.Index.{Numbers, numbers_of, IsIndex, SetsAt, IsLoaded}
-use Rattle.tm_items.specs.Listing.{children_in}
+use Rattle.tm_items.specs.Index.{Numbers, IsIndex, SetsAt, IsLoaded}
 use Rattle.tm_items.specs.Finding.{FoundAt, OnWay}
 
 -- ---- the way down a path by the index
@@ -72,10 +71,6 @@ NothingIn = (items : Items) (numbers : Numbers) (n : ℕ) → IsSound items → 
     → ((name : List ℕ) → numbers (at_name n name) ≡ None)
     → (m : ℕ) (x : Placed) → items m ≡ Some x → (m == 1) ≡ false → (x.parent == n) ≡ false
 
--- a folder without a place in the index's list has none of its names in the index
-abbrev pub EmptyRange : Type 0
-EmptyRange = (index : List (Place × ℕ)) (n : ℕ) → children_in n index ≡ [] → (name : List ℕ) → numbers_of index (at_name n name) ≡ None
-
 -- nothing stands in a file or link
 abbrev pub NothingInLeaf : Type 0
 NothingInLeaf = (items : Items) (n : ℕ) → IsSound items → is_folder_placed (items n) ≡ false
@@ -83,17 +78,14 @@ NothingInLeaf = (items : Items) (n : ℕ) → IsSound items → is_folder_placed
 
 -- ---- the index after a change
 
--- a new item is set at its place
 abbrev pub IndexPlaces : Type 0
 IndexPlaces = (items : Items) (t : Tree) (p : Names) (n k moment : ℕ) (e : Item) (old new : Numbers) → Are items t → CanPlace items t p n k
     → IsIndex items old → SetsAt (place_in k p) (Some n) old new → IsIndex (placed_items items p n k moment e) new
 
--- the place of a removed item is taken out
 abbrev pub IndexRemoves : Type 0
 IndexRemoves = (items : Items) (t : Tree) (p : Names) (n k moment : ℕ) (old new : Numbers) → Are items t → CanRemove items t p n k
     → IsIndex items old → SetsAt (place_in k p) None old new → IsIndex (removed_items items n k moment) new
 
--- a moved item is set at its new place, and the old one is taken out
 abbrev pub IndexMoves : Type 0
 IndexMoves = (items : Items) (t : Tree) (a b : Names) (n j k : ℕ) (x : Placed) (moment : ℕ) (old between new : Numbers) → Are items t
     → CanMove items t a b n j k x → IsIndex items old → SetsAt (place_in k b) (Some n) old between
@@ -119,7 +111,6 @@ SetIsUndone = (place : Place) (n : ℕ) (old between new : Numbers) → old plac
 abbrev pub LoadStarts : Type 0
 LoadStarts = (items : Items) → items 0 ≡ None → is_root_placed (items 1) ≡ true → IsLoaded items 2 (λ place. None)
 
--- a number without an item is passed over
 abbrev pub LoadSkips : Type 0
 LoadSkips = (items : Items) (n : ℕ) (numbers : Numbers) → IsLoaded items n numbers → 2 ≤ n → items n ≡ None → IsLoaded items (n + 1) numbers
 
@@ -127,7 +118,7 @@ LoadSkips = (items : Items) (n : ℕ) (numbers : Numbers) → IsLoaded items n n
 abbrev pub LoadTakes : Type 0
 LoadTakes = (items : Items) (n : ℕ) (x : Placed) (old new : Numbers) → IsLoaded items n old → 2 ≤ n → items n ≡ Some x
     → is_folder_placed (items x.parent) ≡ true → climbs 64 items n ≡ true → is_some x.name ≡ true
-    → is_some (old (place_of x)) ≡ false
+    → old (place_of x) ≡ None
     → SetsAt (place_of x) (Some n) old new → IsLoaded items (n + 1) new
 
 -- above the last number nothing stands
@@ -135,26 +126,22 @@ abbrev pub LoadEnds : Type 0
 LoadEnds = (items : Items) (n : ℕ) (numbers : Numbers) → IsLoaded items n numbers → 2 ≤ n → ((m : ℕ) → n ≤ m → items m ≡ None)
     → IsSound items × IsIndex items numbers
 
--- number 1 must have a root
+-- an item that fails a test breaks a rule
 abbrev pub RootBreaks : Type 0
 RootBreaks = (items : Items) → is_root_placed (items 1) ≡ false → Keeps items 1 → ⊥
 
--- every other item must stand in a folder
 abbrev pub FolderBreaks : Type 0
 FolderBreaks = (items : Items) (n : ℕ) (x : Placed) → 2 ≤ n → items n ≡ Some x → is_folder_placed (items x.parent) ≡ false → Keeps items n → ⊥
 
--- under at most 64 names
 abbrev pub DepthBreaks : Type 0
 DepthBreaks = (items : Items) (n : ℕ) (x : Placed) → 2 ≤ n → items n ≡ Some x → climbs 64 items n ≡ false → Keeps items n → ⊥
 
--- with a name
 abbrev pub NameBreaks : Type 0
-NameBreaks = (items : Items) (n : ℕ) (x : Placed) → 2 ≤ n → items n ≡ Some x → is_some x.name ≡ false → Keeps items n → ⊥
+NameBreaks = (items : Items) (n : ℕ) (x : Placed) → 2 ≤ n → items n ≡ Some x → x.name ≡ None → Keeps items n → ⊥
 
--- at a place that no lower number has
 abbrev pub PlaceBreaks : Type 0
-PlaceBreaks = (items : Items) (n : ℕ) (x : Placed) (numbers : Numbers) → IsLoaded items n numbers → 2 ≤ n → items n ≡ Some x
-    → is_some (numbers (place_of x)) ≡ true → Keeps items n → ⊥
+PlaceBreaks = (items : Items) (n k : ℕ) (x : Placed) (numbers : Numbers) → IsLoaded items n numbers → 2 ≤ n → items n ≡ Some x
+    → numbers (place_of x) ≡ Some k → Keeps items n → ⊥
 
 -- ---- how many there are
 

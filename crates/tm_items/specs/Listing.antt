@@ -1,38 +1,30 @@
 -- A folder's entries in the index.
-use Rattle.std.specs.Prelude.{◌≡◌, ℕ, ◌+◌, Option, Some, None, List, [], ◌∷◌, ◌++◌, length}
-use Rattle.std.specs.BTreeMap.Range.{entries_between}
+use Rattle.std.specs.Prelude.{◌≡◌, ℕ, Option, Some, None, List, [], ◌∷◌, ◌++◌}
+use Rattle.std.specs.BTreeMap.{is_at}
 use Rattle.std.specs.List.Sorted.{IsStrictlySortedBy}
-use Rattle.std.specs.Map.{keys_of}
-use Rattle.std.specs.declared.ops.Bound.TheVariants.{Included, Excluded}
-use Rattle.tm_base.specs.Paths.{Names}
-use Rattle.tm_tree.specs.declared.item.Item.{Item}
+use Rattle.std.specs.Map.{keys_of, lookup}
+use Rattle.tm_base.specs.Paths.{Names, name_cmp}
 use Rattle.tm_tree.specs.Trees.{Tree, children}
-use Rattle.tm_items.specs.declared.place.Place.{Place}
 use Rattle.tm_items.specs.Placings.{Placed, Items, Walks}
 use Rattle.tm_items.specs.Changes.{Are}
-use Rattle.tm_items.specs.Computed.{under}
-use Rattle.tm_items.specs.Index.{IsIndex, numbers_of}
-use Rattle.tm_items.specs.Places.{place_cmp}
+use Rattle.tm_items.specs.Index.{Numbers, IsIndex}
+use Rattle.tm_items.specs.Places.{at_name}
 
--- the entries of the folder k, by rising name
-abbrev pub children_in : ℕ → List (Place × ℕ) → List (Place × ℕ)
-children_in k index = entries_between place_cmp (Included (record { parent = k; name = None })) (Excluded (record { parent = k + 1; name = None })) index
+-- these are the numbers of the folder k, by rising name
+pub record AreEntries (numbers : Numbers) (k : ℕ) (entries : List (List ℕ × ℕ)) : Type 0 where
+  pub in_order : IsStrictlySortedBy name_cmp (keys_of entries)
+  pub are : (name : List ℕ) → lookup (is_at (name_cmp name)) entries ≡ numbers (at_name k name)
 
-abbrev pub row_of : Names → Place × ℕ → Option Placed → List (Names × Item)
-row_of p entry None = []
-row_of p entry (Some x) = (under p entry.0.name, x.item) ∷ []
+abbrev pub row_of : Names → List ℕ → Option Placed → Tree
+row_of p name None = []
+row_of p name (Some x) = (p ++ name ∷ [], x.item) ∷ []
 
--- the rows of a folder at p whose entries these are
-abbrev pub rows_in : Items → Names → List (Place × ℕ) → Tree
+-- the rows of a folder at p with these entries
+abbrev pub rows_in : Items → Names → List (List ℕ × ℕ) → Tree
 rows_in items p [] = []
-rows_in items p (entry ∷ entries) = row_of p entry (items entry.1) ++ rows_in items p entries
+rows_in items p (entry ∷ entries) = row_of p entry.0 (items entry.1) ++ rows_in items p entries
 
 -- they are the children of the folder in the tree
 abbrev pub ListsChildren : Type 0
-ListsChildren = (items : Items) (t : Tree) (index : List (Place × ℕ)) (k : ℕ) (p : Names) → Are items t → IsIndex items (numbers_of index)
-    → IsStrictlySortedBy place_cmp (keys_of index) → Walks items 1 p k → rows_in items p (children_in k index) ≡ children t p
-
--- the folder has as many children as entries
-abbrev pub CountsChildren : Type 0
-CountsChildren = (items : Items) (t : Tree) (index : List (Place × ℕ)) (k : ℕ) (p : Names) → Are items t → IsIndex items (numbers_of index)
-    → IsStrictlySortedBy place_cmp (keys_of index) → Walks items 1 p k → length (children t p) ≡ length (children_in k index)
+ListsChildren = (items : Items) (t : Tree) (numbers : Numbers) (entries : List (List ℕ × ℕ)) (k : ℕ) (p : Names) → Are items t
+    → IsIndex items numbers → AreEntries numbers k entries → Walks items 1 p k → rows_in items p entries ≡ children t p

@@ -13,7 +13,6 @@ ghost use Rattle.tm_items.specs.Laws.{
   IndexLeads,
   OwnPlace,
   NothingIn,
-  EmptyRange,
   NothingInLeaf,
   IndexPlaces,
   IndexRemoves,
@@ -61,7 +60,6 @@ pub fn index_tells()
     ensures leads { IndexLeads }
     ensures place { OwnPlace }
     ensures empty { NothingIn }
-    ensures range { EmptyRange }
     ensures leaf { NothingInLeaf }
 {}
 

@@ -1,5 +1,4 @@
 use Rattle.tm_items.proofs.Finding.{index_has, index_leads, own_place, nothing_in, nothing_in_leaf}
-use Rattle.tm_items.proofs.Ranges.{empty_range}
 use Rattle.tm_items.proofs.laws.index_tells.Goals as goal
 
 pub returns-clause-has : goal.returns-clause-has
@@ -16,6 +15,3 @@ returns-clause-empty c = nothing_in
 
 pub returns-clause-leaf : goal.returns-clause-leaf
 returns-clause-leaf c = nothing_in_leaf
-
-pub returns-clause-range : goal.returns-clause-range
-returns-clause-range c = empty_range
