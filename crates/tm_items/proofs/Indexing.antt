@@ -13,10 +13,9 @@ use Rattle.tm_base.specs.Paths.{parent_of}
 use Rattle.tm_tree.specs.declared.item.Item.{Item}
 use Rattle.tm_tree.specs.Items.{dated}
 use Rattle.tm_tree.specs.Trees.{item_at, last_of}
-use Rattle.tm_items.specs.declared.place.Place.{Place}
 use Rattle.tm_items.specs.Placings.{Placed, Items, IsChild}
 use Rattle.tm_items.specs.Changes.{with_item, without_item, date_placed, date_item}
-use Rattle.tm_items.specs.Places.{place_cmp, at_name, place_in, place_of}
+use Rattle.tm_items.specs.Places.{Place, place_cmp, at_name, place_in, place_of}
 use Rattle.tm_items.specs.Index.{Numbers, IsChildAt, IsIndex, SetsAt}
 use Rattle.tm_items.specs.Laws.{IndexPlaces, IndexRemoves, IndexMoves, IndexReplaces, IndexDates, SetIsUndone}
 use Rattle.tm_items.proofs.Walking.{OneEach, one_each}

@@ -1,9 +1,8 @@
 -- The index of numbered items: the number at each place.
 use Rattle.std.specs.Prelude.{◌≡◌, ℕ, ◌<◌, if◌then◌else◌, Option, Some, None, List}
 use Rattle.std.specs.BTreeMap.{is_at}
-use Rattle.tm_items.specs.declared.place.Place.{Place}
 use Rattle.tm_items.specs.Placings.{Items, IsChild}
-use Rattle.tm_items.specs.Places.{place_cmp, at_name}
+use Rattle.tm_items.specs.Places.{Place, place_cmp, at_name}
 use Rattle.tm_items.specs.Rules.{Keeps}
 
 -- the number at each place

@@ -5,12 +5,11 @@ use Rattle.tm_base.specs.declared.refused.Refused.TheVariants.{NotFound, NotFold
 use Rattle.tm_tree.specs.declared.item.Item.{Item}
 use Rattle.tm_tree.specs.Trees.{Tree, item_at}
 use Rattle.tm_tree.specs.Walks.{walk}
-use Rattle.tm_items.specs.declared.place.Place.{Place}
 use Rattle.tm_items.specs.Placings.{Placed, Items, Walks}
 use Rattle.tm_items.specs.Rules.{is_folder_placed, is_root_placed, climbs, Keeps, IsSound}
 use Rattle.tm_items.specs.Computed.{Placings, items_of, AreNumbered}
 use Rattle.tm_items.specs.Changes.{date_item, Are, CanPlace, placed_items, replaced_items, CanRemove, removed_items, CanMove, moved_items}
-use Rattle.tm_items.specs.Places.{at_name, place_in, place_of}
+use Rattle.tm_items.specs.Places.{Place, at_name, place_in, place_of}
 use Rattle.tm_items.specs.Index.{Numbers, IsIndex, SetsAt, IsLoaded}
 use Rattle.tm_items.specs.Finding.{FoundAt, OnWay}
 

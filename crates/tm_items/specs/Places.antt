@@ -1,13 +1,17 @@
 -- Places, and their order.
-use Rattle.std.specs.Prelude.{ℕ, Some, List}
+use Rattle.std.specs.Prelude.{ℕ, Option, Some, List}
 use Rattle.std.specs.declared.cmp.Ordering.{Ordering}
 use Rattle.std.specs.Ordering.{nat_cmp, ordering_then}
 use Rattle.std.specs.Option.{option_cmp}
 use Rattle.std.specs.Cmp.Lexicographic.{slice_cmp}
 use Rattle.tm_base.specs.Paths.{Names}
 use Rattle.tm_tree.specs.Trees.{last_of}
-use Rattle.tm_items.specs.declared.place.Place.{Place}
 use Rattle.tm_items.specs.Placings.{Placed}
+
+-- a folder, by its number, and a name there
+pub record Place : Type 0 where
+  pub parent : ℕ
+  pub name : Option (List ℕ)
 
 -- by the folder, then by the name; no name is below each name
 abbrev pub place_cmp : Place → Place → Ordering

@@ -4,7 +4,6 @@
 
 mod change_laws;
 mod laws;
-mod place;
 
 pub use change_laws::{
     counts_are_alike, listings_are_children, moved_items_read, new_items_read, removed_items_read,
@@ -14,4 +13,3 @@ pub use laws::{
     failed_tests_break_rules, index_follows, index_tells, index_walks, items_load,
     items_read_as_one_tree, numbers_count, sound_items_read,
 };
-pub use place::Place;
