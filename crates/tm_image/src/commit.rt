@@ -42,8 +42,9 @@ impl Image {
         blocks_brought(self.alloc, puts)
     }
 
-    /// Gives back the blobs that these puts bring.
-    fn give_brought(&mut self, puts: &[Put])
+    /// Gives back the blobs that these puts bring: their blocks are free afterwards. It takes no
+    /// memory.
+    pub fn give_brought(&mut self, puts: &[Put])
         requires sound { IsSound self.old }
         requires staged { (b : ℕ) → brought_by b puts.now ≤ staged b self.old }
         ensures staged { (b : ℕ) → staged b self.new + brought_by b puts.now ≡ staged b self.old }
@@ -99,10 +100,12 @@ impl Image {
         ensures settled { result ≢ Err ImageError.Fault → IsSettled self.new }
         ensures space { result ≢ Err ImageError.Fault → HasRoom self.new }
         ensures err { OnErr result (result ≢ Err ImageError.Fault → HasSameImage self.old self.new) }
+        ensures faulted { result ≡ Err ImageError.Fault → (self.new.records ≡ changed changes.remove.items changes.put.items self.old.records) × (self.new.root ≡ self.old.root) }
         ensures untouched { OnErr result (result ≢ Err ImageError.Fault → world.new ≡ world.old) }
         ensures full { (need free : ℕ) → result ≡ Err (ImageError.Full need free) → (free < need) × (free ≡ free_of self.old)
             × (need ≡ need_of (table_len self.old.records) (table_len (changed changes.remove.items changes.put.items self.old.records)) (released_by changes.remove.items changes.put.items self.old.records)) }
         ensures fits { OnOk result (need_of (table_len self.old.records) (table_len (changed changes.remove.items changes.put.items self.old.records)) (released_by changes.remove.items changes.put.items self.old.records) ≤ free_of self.old) }
+        ensures tried { IsErrOf result ImageError.Fault → need_of (table_len self.old.records) (table_len (changed changes.remove.items changes.put.items self.old.records)) (released_by changes.remove.items changes.put.items self.old.records) ≤ free_of self.old }
         ensures blocks { W.blocks world.new ≡ W.blocks world.old }
         ensures never_less { NeverLess (W.faults world.old) (W.faults world.new) }
         ensures fault { IsErrOf result ImageError.Fault → Rose (W.faults world.old (part_of self.old.side)) (W.faults world.new (part_of self.old.side)) }

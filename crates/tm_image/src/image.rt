@@ -64,6 +64,13 @@ impl Image {
         }
     }
 
+    /// How many records there are. It takes no memory.
+    pub fn count(&self) -> u64
+        ensures { result ≡ length self.now.records }
+    {
+        self.records.len() as u64
+    }
+
     /// The tag. It takes no memory.
     pub fn tag(&self) -> &[u8; 64]
         ensures { result.now ≡ self.now.root.tag }

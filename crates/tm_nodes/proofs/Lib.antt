@@ -1,4 +1,4 @@
-mod Formats
+pub mod Formats
 mod Numbers
 mod Fields
 mod Places
@@ -6,8 +6,8 @@ mod Orders
 mod Parts
 mod LeafLemmas
 mod KindLemmas
-mod ItemLemmas
+pub mod ItemLemmas
 mod NodeLemmas
-mod RowLemmas
-mod HeadLemmas
+pub mod RowLemmas
+pub mod HeadLemmas
 mod Loops
