@@ -1,0 +1,33 @@
+use Rattle.std.proofs.Common.{cond, Some, refl, sym, subst}
+use Rattle.tm_index.specs.Folders.{numbers_in}
+use Rattle.tm_world.specs.Outside.{disk}
+use Rattle.tm_world.specs.Log.{now}
+use Rattle.tm_world.specs.Runs.{Runs}
+use Rattle.tm_world.specs.declared.world.Side.TheVariants.{Volume as OfVolume}
+use Rattle.tm_volume.specs.Reads.{LeavesSide}
+use Rattle.tm_volume.specs.Seen.{Seen, StandsOn, stored_on}
+use Rattle.tm_volume.proofs.Editing.{shelf_back}
+use Rattle.tm_volume.proofs.Staging.{stage_run, stage_stands}
+use Rattle.tm_volume.proofs.volume.Volume.stage.Goals as goal
+
+pub invariant_of-self : goal.invariant_of-self
+invariant_of-self g c =
+    let m : Seen = record { image = c.self.inside.image; head = c.self.inside.head; fixed = c.self.inside.fixed; tag = record { clean = cond c.self.inside.clean 1 0; generation = c.self.inside.generation; next = c.self.inside.next }; looks = c.self.inside.looks } in
+    shelf_back m (numbers_in c.self.inside.numbers) c.self.invariant c.stage.new.self (numbers_in c.self.inside.numbers) c.stage.ensures.same refl
+
+pub returns-clause-any_moment : goal.returns-clause-any_moment
+returns-clause-any_moment g c told =
+    let m : Seen = record { image = c.self.inside.image; head = c.self.inside.head; fixed = c.self.inside.fixed; tag = record { clean = cond c.self.inside.clean 1 0; generation = c.self.inside.generation; next = c.self.inside.next }; looks = c.self.inside.looks } in
+    let l0 = g.W.World.log c.args.world.now in
+    let l1 = g.W.World.log c.stage.new.world in
+    let stands = subst (λ (s : Seen). StandsOn s (disk OfVolume (now l0))) (sym c.self.view_is) (c.requires.stands told) in
+    subst (λ (s : Seen). Runs OfVolume (LeavesSide (Some (stored_on s (disk OfVolume (now l0)).bytes))) l0 l1) c.self.view_is
+    (stage_run m (numbers_in c.self.inside.numbers) c.self.invariant l0 l1 stands (c.stage.ensures.any_moment told))
+
+pub returns-clause-stands : goal.returns-clause-stands
+returns-clause-stands g c told =
+    let m : Seen = record { image = c.self.inside.image; head = c.self.inside.head; fixed = c.self.inside.fixed; tag = record { clean = cond c.self.inside.clean 1 0; generation = c.self.inside.generation; next = c.self.inside.next }; looks = c.self.inside.looks } in
+    let l0 = g.W.World.log c.args.world.now in
+    let l1 = g.W.World.log c.stage.new.world in
+    let stands = subst (λ (s : Seen). StandsOn s (disk OfVolume (now l0))) (sym c.self.view_is) (c.requires.stands told) in
+    stage_stands m (numbers_in c.self.inside.numbers) c.self.invariant c.stage.new.self l0 l1 c.stage.ensures.same stands (c.stage.ensures.stands told) (c.stage.ensures.data told)

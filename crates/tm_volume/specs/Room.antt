@@ -1,0 +1,96 @@
+-- How much room a volume takes: arithmetic on what it holds, wherever its blocks lie.
+use Rattle.std.specs.Prelude.{ℕ, ◌+◌, ◌-◌, ◌*◌, nat_lt, Option, List, [], ◌∷◌, ◌++◌, length}
+use Rattle.std.specs.List.{sum_by}
+use Rattle.std.specs.Option.{option_map_or}
+use Rattle.tm_base.specs.declared.refused.Refused.TheVariants.{Full}
+use Rattle.tm_chain.specs.Blob.{blob_len}
+use Rattle.tm_image.specs.Layout.{blocks_for}
+use Rattle.tm_image.specs.Room.{need_of}
+use Rattle.tm_items.specs.Computed.{last_name}
+use Rattle.tm_items.specs.Placings.{Placed}
+use Rattle.tm_nodes.specs.declared.volume.VolumeHead.{VolumeHead}
+use Rattle.tm_nodes.specs.Headers.{volume_text}
+use Rattle.tm_nodes.specs.Items.{item_text}
+use Rattle.tm_nodes.specs.Paths.{paths_text}
+use Rattle.tm_tree.specs.declared.change.Change.{Change}
+use Rattle.tm_tree.specs.declared.change.Change.TheVariants as change
+use Rattle.tm_tree.specs.declared.item.Item.{Item}
+use Rattle.tm_tree.specs.declared.item.Item.TheVariants as item
+use Rattle.tm_tree.specs.declared.node.LeafRow.TheVariants as leaf
+use Rattle.tm_tree.specs.declared.record.ItemBody.{ItemBody}
+use Rattle.tm_tree.specs.declared.record.ItemBody.TheVariants as body
+use Rattle.tm_tree.specs.declared.record.ItemRow.{ItemRow}
+use Rattle.tm_tree.specs.Changes.{length_at, fixed_after}
+use Rattle.tm_tree.specs.Contents.{Contents}
+use Rattle.tm_tree.specs.Items.{bytes_of}
+use Rattle.tm_tree.specs.Refusing.{Tests}
+use Rattle.tm_tree.specs.States.{VolumeState}
+use Rattle.tm_volume.specs.Stored.{StoredVolume}
+
+-- an item's record without its data
+abbrev pub body_of : Item → ItemBody
+body_of (item.Folder attrs) = body.Folder attrs
+body_of (item.File attrs stamp bytes) = body.Leaf (leaf.File attrs stamp (length bytes))
+body_of (item.Link attrs stamp target) = body.Leaf (leaf.Link attrs stamp target)
+
+-- what the record of a numbered item says
+abbrev pub placed_row : Placed → ItemRow
+placed_row x = record { parent = x.parent; name = x.name; body = body_of x.item }
+
+-- in any folder: the parent's number always takes as many bytes
+abbrev pub row_of : Option (List ℕ) → Item → ItemRow
+row_of name e = record { parent = 0; name = name; body = body_of e }
+
+-- what a record takes of the table's text
+abbrev pub record_len : ℕ → ℕ → ℕ
+record_len meta_len data_len = 20 + meta_len + 4 * blob_len data_len
+
+abbrev pub item_len : Option (List ℕ) → Item → ℕ
+item_len name e = record_len (length (item_text (row_of name e))) (length (bytes_of e))
+
+abbrev pub head_of : VolumeState → VolumeHead
+head_of v = record { id = v.id; capacity = v.capacity; name = v.name }
+
+abbrev pub head_len : VolumeState → ℕ
+head_len v = record_len (length (volume_text (head_of v))) (length (paths_text v.contents.fixed))
+
+-- how many bytes the text of the table has
+abbrev pub text_len : StoredVolume → ℕ
+text_len s = head_len s.volume + option_map_or (record_len 0) s.journal 0 + sum_by (λ row. item_len (last_name row.0) row.1) s.volume.contents.tree
+
+-- how many blocks the table takes
+abbrev pub table_len : StoredVolume → ℕ
+table_len s = blocks_for (text_len s)
+
+-- how many blocks the data take
+abbrev pub data_len : StoredVolume → ℕ
+data_len s = blob_len (length (paths_text s.volume.contents.fixed)) + option_map_or blob_len s.journal 0
+    + sum_by (λ row. blob_len (length (bytes_of row.1))) s.volume.contents.tree
+
+-- how many blocks of an image of so many are free
+abbrev pub free_of : ℕ → StoredVolume → ℕ
+free_of blocks s = blocks - (3 + table_len s + data_len s)
+
+-- ---- when a change doesn't fit
+
+-- how many bytes a change stages: the whole new contents of a file, or all fixed paths
+abbrev pub staged_len : Contents → Change → ℕ
+staged_len v (change.Write p bytes) = length bytes
+staged_len v (change.Append p bytes) = length_at v.tree p + length bytes
+staged_len v (change.Fill p count seed) = count
+staged_len v (change.Fix p) = length (paths_text (fixed_after v.fixed (change.Fix p)))
+staged_len v (change.Unfix p) = length (paths_text (fixed_after v.fixed (change.Unfix p)))
+staged_len v _ = 0
+
+-- staging so many blocks
+abbrev pub staging_tests : ℕ → StoredVolume → ℕ → Tests
+staging_tests blocks s staged = let need = staged + table_len s in (nat_lt (free_of blocks s) need, Full need (free_of blocks s)) ∷ []
+
+-- the commit that follows, which makes `new` of s
+abbrev pub commit_tests : ℕ → StoredVolume → StoredVolume → ℕ → Tests
+commit_tests blocks s new staged =
+    let need = need_of (table_len s) (table_len new) (data_len s + staged - data_len new) in let free = free_of blocks s - staged in
+    (nat_lt free need, Full need free) ∷ []
+
+abbrev pub room_tests : ℕ → StoredVolume → StoredVolume → ℕ → Tests
+room_tests blocks s new staged = staging_tests blocks s staged ++ commit_tests blocks s new staged
