@@ -2,7 +2,15 @@
 #![tactic(auto)]
 
 #[cfg(test)]
+mod damaged;
+#[cfg(test)]
+mod filled;
+#[cfg(test)]
+mod images;
+#[cfg(test)]
 mod refusals;
+#[cfg(test)]
+mod reloaded;
 #[cfg(test)]
 mod scripts;
 #[cfg(test)]

@@ -4,3 +4,6 @@ pub mod Changing
 pub mod Steps
 pub mod Answers
 pub mod Runs
+pub mod Commits
+pub mod Stops
+pub mod Session

@@ -16,6 +16,9 @@ use Rattle.tm_text.specs.declared.place.ItemAt.{ItemAt}
 use Rattle.tm_tree.specs.declared.attrs.Attrs.{Attrs}
 use Rattle.tm_tree.specs.declared.item.Item.{Item}
 use Rattle.tm_tree.specs.declared.item.Item.TheVariants.{Folder, File, Link}
+use Rattle.tm_tree.specs.declared.node.LeafRow.TheVariants as leaf
+use Rattle.tm_tree.specs.declared.record.ItemBody.{ItemBody}
+use Rattle.tm_tree.specs.declared.record.ItemBody.TheVariants as body
 use Rattle.tm_tree.specs.Copies.{bare}
 use Rattle.tm_tree.specs.Items.{attrs_of, is_folder}
 use Rattle.tm_tree.specs.Listings.{entries_of}
@@ -34,6 +37,18 @@ abbrev pub item_row : Item → ListedName → ReplyRow
 item_row (Folder a) name = row.Folder (attributes a) name
 item_row (File a stamp bytes) name = row.File (attributes a) (length bytes) stamp name
 item_row (Link a stamp target) name = row.Link (attributes a) stamp name target
+
+-- the line of an item's record, a file by its length
+abbrev pub body_row : ItemBody → ListedName → ReplyRow
+body_row (body.Folder a) name = row.Folder (attributes a) name
+body_row (body.Leaf (leaf.File a stamp size)) name = row.File (attributes a) size stamp name
+body_row (body.Leaf (leaf.Link a stamp target)) name = row.Link (attributes a) stamp name target
+
+-- the attributes of a record
+abbrev pub body_attrs : ItemBody → Attrs
+body_attrs (body.Folder a) = a
+body_attrs (body.Leaf (leaf.File a stamp size)) = a
+body_attrs (body.Leaf (leaf.Link a stamp target)) = a
 
 abbrev pub extra_row : List ℕ × List ℕ → ReplyRow
 extra_row extra = row.Extra extra.0 extra.1

@@ -4,7 +4,7 @@ use Rattle.std.specs.List.{list_any}
 use Rattle.std.specs.Option.{option_map, option_map_or}
 use Rattle.tm_base.specs.Paths.{Names, same_name}
 use Rattle.tm_base.specs.declared.refused.Refused.{Refused}
-use Rattle.tm_base.specs.declared.refused.Refused.TheVariants.{NoVolume, NoStore, Already, IsFolder, DateNotLater, ClockBack, NoSnapshot, IdsSpent, IdTaken, NotBuilt}
+use Rattle.tm_base.specs.declared.refused.Refused.TheVariants.{NoVolume, NoStore, Already, Small, IsFolder, DateNotLater, ClockBack, NoSnapshot, IdsSpent, IdTaken, NotBuilt}
 use Rattle.tm_reply.specs.declared.reply.Reply.{Reply}
 use Rattle.tm_reply.specs.declared.row.ReplyRow.{ReplyRow}
 use Rattle.tm_reply.specs.declared.row.ReplyRow.TheVariants as row
@@ -13,20 +13,21 @@ use Rattle.tm_text.specs.declared.line.Line.TheVariants as line
 use Rattle.tm_text.specs.declared.place.StorePath.{StorePath}
 use Rattle.tm_text.specs.declared.place.StorePath.TheVariants as place
 use Rattle.tm_tree.specs.declared.change.Change.{Change}
-use Rattle.tm_tree.specs.Changes as volume
 use Rattle.tm_tree.specs.Changes.{item_tests}
 use Rattle.tm_tree.specs.Copies.{bare}
 use Rattle.tm_tree.specs.Refusing.{Tests, first_refused, too_many, needs_moment}
-use Rattle.tm_tree.specs.States.{VolumeState, StoreState, Snapshot, new_volume, new_store, latest, backed_up}
+use Rattle.tm_tree.specs.States.{StoreState, Snapshot, new_store, latest, backed_up}
 use Rattle.tm_tree.specs.Trees.{Tree}
 use Rattle.tm_tree.specs.Walks.{way, is_at_folder}
+use Rattle.tm_volume.specs.Changes as volume
+use Rattle.tm_volume.specs.Stored.{StoredVolume, new_stored}
 use Rattle.tm_machine.specs.States.{State}
 use Rattle.tm_machine.specs.Queries.{list_rows, content_rows, snapshot_paths, latest_path, store_rows, named_snapshot, holding_snapshot, stored_tree, walked}
 use Rattle.tm_machine.specs.Changing.{change_of}
 
 -- ---- when a line is refused: its tests by rising number of the refusal
 
-abbrev pub on_volume : Option VolumeState → (VolumeState → Tests) → Tests
+abbrev pub on_volume : Option StoredVolume → (StoredVolume → Tests) → Tests
 on_volume None tests = (true, NoVolume) ∷ []
 on_volume (Some v) tests = tests v
 
@@ -48,11 +49,18 @@ abbrev pub is_taken : Option StoreState → ℕ → Bool
 is_taken None id = false
 is_taken (Some store) id = list_any (λ s. s.id == id) store.snapshots
 
-abbrev pub new_volume_tests : State → ℕ → Tests
-new_volume_tests s id = (is_some s.volume, Already) ∷ needs_moment s.moment ++ (is_taken s.store id, IdTaken) ∷ []
+-- blocks of an image that can be formatted
+abbrev pub least_blocks : ℕ
+least_blocks = 8
 
-abbrev pub new_store_tests : State → Tests
-new_store_tests s = (is_some s.store, Already) ∷ []
+abbrev pub new_volume_tests : State → ℕ → Tests
+new_volume_tests s id =
+    (is_some s.volume, Already)
+    ∷ (nat_lt s.volume_blocks least_blocks, Small)
+    ∷ needs_moment s.moment ++ (is_taken s.store id, IdTaken) ∷ []
+
+abbrev pub new_store_tests : Option StoreState → Tests
+new_store_tests store = (is_some store, Already) ∷ []
 
 -- a file or link is needed at p
 abbrev pub content_tests : Tree → Names → Tests
@@ -74,7 +82,7 @@ backup_tests store moment =
     ++ needs_moment moment
     ++ (nat_le (2 ^ 40) store.number, IdsSpent) ∷ []
 
-abbrev pub start_tests : Option VolumeState → Option StoreState → Option ℕ → Tests
+abbrev pub start_tests : Option StoredVolume → Option StoreState → Option ℕ → Tests
 start_tests v store moment = on_volume v (λ _. on_store store (λ store. backup_tests store moment))
 
 -- a store path names no snapshot
@@ -96,9 +104,9 @@ place_tests store (place.Item item) = stored_tests item_tests (holding_snapshot 
 abbrev pub other_tests : State → Line → Tests
 other_tests s (line.At date) = clock_tests s.moment date
 other_tests s (line.NewVolume name id events) = new_volume_tests s id
-other_tests s (line.NewStore machine) = new_store_tests s
-other_tests s (line.Ls p) = on_volume s.volume (λ v. item_tests v.contents.tree p)
-other_tests s (line.Cat p) = on_volume s.volume (λ v. content_tests v.contents.tree p)
+other_tests s (line.NewStore machine) = new_store_tests s.store
+other_tests s (line.Ls p) = on_volume s.volume (λ v. item_tests v.volume.contents.tree p)
+other_tests s (line.Cat p) = on_volume s.volume (λ v. content_tests v.volume.contents.tree p)
 other_tests s line.StartBackupBlock = start_tests s.volume s.store s.moment
 other_tests s line.ListBackups = on_store s.store (λ store. [])
 other_tests s line.LatestBackup = on_store s.store (λ store. snapshot_tests (latest store))
@@ -109,7 +117,7 @@ other_tests s _ = not_built
 
 -- a line that changes the contents of the volume
 abbrev pub change_tests : State → Change → Tests
-change_tests s c = on_volume s.volume (λ v. volume.tests v.contents c s.moment)
+change_tests s c = on_volume s.volume (λ v. volume.change_tests s.volume_blocks v c s.moment)
 
 abbrev pub tests_by : State → Line → Option Change → Tests
 tests_by s l (Some c) = change_tests s c
@@ -125,12 +133,12 @@ refusal s l = first_refused (tests s l)
 
 -- ---- what a line answers that is not refused: its data lines
 
-abbrev pub finished_rows : Option ℕ → VolumeState → List ReplyRow
-finished_rows moment v = row.Finished (unwrap_or moment 0) (walked v) ∷ []
+abbrev pub finished_rows : Option ℕ → StoredVolume → List ReplyRow
+finished_rows moment v = row.Finished (unwrap_or moment 0) (walked v.volume) ∷ []
 
 abbrev pub rows : State → Line → List ReplyRow
-rows s (line.Ls p) = option_map_or (λ v. list_rows v.contents.tree p) s.volume []
-rows s (line.Cat p) = option_map_or (λ v. content_rows v.contents.tree p) s.volume []
+rows s (line.Ls p) = option_map_or (λ v. list_rows v.volume.contents.tree p) s.volume []
+rows s (line.Cat p) = option_map_or (λ v. content_rows v.volume.contents.tree p) s.volume []
 rows s line.StartBackupBlock = option_map_or (finished_rows s.moment) s.volume []
 rows s line.ListBackups = option_map_or snapshot_paths s.store []
 rows s line.LatestBackup = option_map_or latest_path s.store []
@@ -141,23 +149,20 @@ rows s _ = []
 
 -- ---- what a line does that is not refused
 
-abbrev pub changed_by : Change → Option ℕ → VolumeState → VolumeState
-changed_by c moment v = record v { contents = volume.after v.contents c moment }
-
 -- a backup that starts now and finishes at once
-abbrev pub backed : Option VolumeState → Option StoreState → Option ℕ → Option StoreState
-backed (Some v) (Some store) (Some date) = Some (backed_up store v date)
+abbrev pub backed : Option StoredVolume → Option StoreState → Option ℕ → Option StoreState
+backed (Some v) (Some store) (Some date) = Some (backed_up store v.volume date)
 backed _ store _ = store
 
 abbrev pub other_after : State → Line → State
 other_after s (line.At date) = record s { moment = Some date }
-other_after s (line.NewVolume name id events) = record s { volume = Some (new_volume name id events (unwrap_or s.moment 0)) }
+other_after s (line.NewVolume name id events) = record s { volume = Some (new_stored name id events (unwrap_or s.moment 0)) }
 other_after s (line.NewStore machine) = record s { store = Some (new_store machine) }
 other_after s line.StartBackupBlock = record s { store = backed s.volume s.store s.moment }
 other_after s _ = s
 
 abbrev pub changed : State → Change → State
-changed s c = record s { volume = option_map (changed_by c s.moment) s.volume }
+changed s c = record s { volume = option_map (λ v. volume.changed v c s.moment) s.volume }
 
 abbrev pub after_by : State → Line → Option Change → State
 after_by s l (Some c) = changed s c

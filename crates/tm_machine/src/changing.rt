@@ -7,7 +7,7 @@ use tm_text::Line;
 use tm_tree::{Change, is_exclusion};
 
 /// The change that a line asks for; none where it asks for none, or for one that isn't built.
-pub(crate) fn change_of(line: &Line) -> Result<Option<Change>, AllocError>
+pub fn change_of(line: &Line) -> Result<Option<Change>, AllocError>
     ensures { IfOk result (λ change. change ≡ change_of line.now) }
 {
     match line {

@@ -1,18 +1,19 @@
-//! The data lines of items.
+//! The data lines of items in snapshots.
 ghost use Rattle.std.specs.Prelude.{◌≡◌, ◌∷◌, [], ◌++◌, IfOk, OnOk, map};
 ghost use Rattle.tm_machine.specs.Queries.{attributes, item_row, extra_rows, content_row, named_row, shown_rows, list_rows, content_rows};
 ghost use Rattle.tm_machine.specs.Steps.{content_tests};
 ghost use Rattle.tm_machine.specs.Answers.{AnswersQuery};
 ghost use Rattle.tm_tree.specs.Changes.{item_tests};
+ghost use Rattle.tm_tree.specs.Copies.{bare};
 ghost use Rattle.tm_plain.specs.Entries.{named};
 
 use std::alloc::{AllocError, Global};
 use tm_base::{LineFault, Path, Refused};
-use tm_plain::{Entry, LabelledTree, Volume};
+use tm_plain::{Entry, LabelledTree};
 use tm_reply::{Attributes, ListedName, ReplyRow, ReplyRows};
 use tm_tree::{Attrs, Item};
 
-fn attributes(attrs: &Attrs) -> Attributes
+pub(crate) fn attributes(attrs: &Attrs) -> Attributes
     ensures { result ≡ attributes attrs.now }
 {
     Attributes {
@@ -57,7 +58,7 @@ fn item_row(item: &Item, name: ListedName) -> Result<ReplyRow, AllocError>
 }
 
 // Adds the lines of an item's extras.
-fn push_extras(rows: &mut ReplyRows, attrs: &Attrs) -> Result<(), AllocError>
+pub(crate) fn push_extras(rows: &mut ReplyRows, attrs: &Attrs) -> Result<(), AllocError>
     ensures { OnOk result (rows.new ≡ rows.old ++ extra_rows attrs.now) }
 {
     for (name, value) in attrs.extra.values() {
@@ -110,56 +111,13 @@ fn content_row(alloc: Global, item: &Item) -> Result<ReplyRows, AllocError>
     Ok(rows)
 }
 
-/// A tree whose items are found by path: a volume's, or that of a snapshot.
-pub(crate) trait Items {
-    ghost use Rattle.std.specs.Prelude.{◌≡◌, IfOk, map};
-    ghost use Rattle.tm_plain.specs.Entries.{named};
-    ghost use Rattle.tm_tree.specs.Listings.{entries_of};
-    ghost use Rattle.tm_tree.specs.Trees.{Tree};
-    ghost use Rattle.tm_tree.specs.Walks.{walk, Finds};
-
-    ghost tree: { Self → Tree };
-
-    fn find(&self, path: &Path) -> Result<&Item, LineFault>
-        ensures { Finds (walk (tree self.now) path.now) result };
-
-    fn entries(&self, path: &Path) -> Result<Vec<Entry<'_>>, AllocError>
-        ensures { IfOk result (λ found. map named found.items ≡ entries_of (tree self.now) path.now) };
-}
-
-impl Items for Volume {
-    ghost tree = { λ v. v.contents.tree };
-
-    fn find(&self, path: &Path) -> Result<&Item, LineFault> {
-        Volume::find(self, path)
-    }
-
-    fn entries(&self, path: &Path) -> Result<Vec<Entry<'_>>, AllocError> {
-        Volume::entries(self, path)
-    }
-}
-
-impl Items for LabelledTree {
-    ghost use Rattle.tm_tree.specs.Copies.{bare};
-
-    ghost tree = { λ t. bare t };
-
-    fn find(&self, path: &Path) -> Result<&Item, LineFault> {
-        LabelledTree::find(self, path)
-    }
-
-    fn entries(&self, path: &Path) -> Result<Vec<Entry<'_>>, AllocError> {
-        LabelledTree::entries(self, path)
-    }
-}
-
-/// Lists the item at a path.
-pub(crate) fn list_item<T: Items>(
+/// Lists the item at a path of a snapshot.
+pub(crate) fn list_item(
     alloc: Global,
-    items: &T,
+    items: &LabelledTree,
     path: &Path,
 ) -> Result<ReplyRows, LineFault>
-    ensures { AnswersQuery (item_tests (T.tree items.now) path.now) (list_rows (T.tree items.now) path.now) result }
+    ensures { AnswersQuery (item_tests (bare items.now) path.now) (list_rows (bare items.now) path.now) result }
 {
     let item = match items.find(path) {
         Ok(item) => item,
@@ -169,13 +127,13 @@ pub(crate) fn list_item<T: Items>(
     Ok(shown_rows(alloc, path, item, entries.as_slice())?)
 }
 
-/// Tells the contents of the file at a path, or the target of the link.
-pub(crate) fn tell_contents<T: Items>(
+/// Tells the contents of the file at a path of a snapshot, or the target of the link.
+pub(crate) fn tell_contents(
     alloc: Global,
-    items: &T,
+    items: &LabelledTree,
     path: &Path,
 ) -> Result<ReplyRows, LineFault>
-    ensures { AnswersQuery (content_tests (T.tree items.now) path.now) (content_rows (T.tree items.now) path.now) result }
+    ensures { AnswersQuery (content_tests (bare items.now) path.now) (content_rows (bare items.now) path.now) result }
 {
     let item = match items.find(path) {
         Ok(item) => item,

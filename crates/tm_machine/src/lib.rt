@@ -1,13 +1,21 @@
 //! The session: one line of a script after the other, on a volume and a store.
 //!
 //! What it must do is the plain machine of `docs/DEFINITIONS.md`, whose definition stands in
-//! `specs/`: the state, the step of a line, and the run over a list of lines.
+//! `specs/`: the state, the step of a line, the run over a list of lines, and the commits, of which
+//! a stop leaves a prefix.
 #![tactic(auto)]
 
 mod backup;
 mod changing;
+mod formatting;
 mod items;
+mod laws;
+mod listing;
+mod opening;
 mod session;
 mod store;
+mod volume;
 
+pub use changing::change_of;
+pub use laws::{commits_end, replies_are_some, session_is_left};
 pub use session::{LineEnd, Session, SessionError};

@@ -1,26 +1,47 @@
-//! The session and its lines.
-ghost use Rattle.std.specs.Prelude.{◌≡◌, ◌==◌, [], IfOk, OnOk, IsOk, IfErr, Ok, Some, None, unwrap_or};
-ghost use Rattle.std.specs.List.{list_any};
-ghost use Rattle.tm_text.specs.declared.line.Line.{Line};
-ghost use Rattle.tm_machine.specs.States.{State, blank};
-ghost use Rattle.tm_machine.specs.Steps.{reply, step, rows, change_tests, changed, other_tests, other_after, clock_tests, new_volume_tests, new_store_tests, is_taken};
-ghost use Rattle.tm_tree.specs.States.{new_volume, new_store};
-ghost use Rattle.tm_machine.specs.Answers.{Answers, AnswersBy};
+//! The session: loading, its lines, and the close.
+ghost use Rattle.std.specs.Prelude.{◌≡◌, ◌≤◌, [], IfOk, OnOk, Ok, Err, ℕ, Some, None};
+ghost use Rattle.tm_base.specs.declared.refused.Side.{Side as Named};
+ghost use Rattle.tm_text.specs.Bounds.{IsValidLine};
+ghost use Rattle.tm_volume.specs.Answers.{FailsVolume};
+ghost use Rattle.tm_world.specs.Faults.{NeverLess, Rose};
+ghost use Rattle.tm_world.specs.Log.{now, Passes};
+ghost use Rattle.tm_world.specs.Outside.{disk};
+ghost use Rattle.tm_world.specs.Torn.{as_read};
+ghost use Rattle.tm_world.specs.declared.cause.Cause.{Cause};
+ghost use Rattle.tm_world.specs.declared.world.Side.TheVariants.{Volume as VolumeSide, Store as StoreSide};
+ghost use Rattle.tm_machine.specs.Commits.{commits_by, commits_of, opening, other_commits};
+ghost use Rattle.tm_machine.specs.Changing.{change_of};
+ghost use Rattle.tm_machine.specs.Session.{Does, IfReplied, IsOpen, IsSynced, Standing, part_of, state_on};
+ghost use Rattle.tm_machine.specs.States.{Stored, kept, opened};
+ghost use Rattle.tm_machine.specs.Answers.{AnswersBy};
+ghost use Rattle.tm_machine.specs.Steps.{after, clock_tests, other_after, other_tests, reply, rows, step, tests};
+ghost use Rattle.tm_machine.specs.Stops.{CanOpen, LeavesCommits, ReadsNow};
 
 use crate::backup::back_up;
 use crate::changing::change_of;
+use crate::opening::open_volume;
 use std::alloc::{AllocError, Global};
 use std::marker::Model;
-use tm_base::{Full, LineFault, Moment, Name, Refused, Side};
-use tm_plain::{Snapshot, Store, Volume};
+use tm_base::{Full, LineFault, Moment, Refused, Side};
+use tm_plain::Store;
 use tm_reply::{Reply, ReplyRows};
 use tm_text::Line;
-use tm_tree::Change;
-use tm_world::World;
+use tm_volume::Volume;
+use tm_volume::laws::{blank_is_left, standing_volume_is_left};
+use tm_world::{Cause, World};
 
 /// Why a session was not loaded.
 #[derive(Clone, Copy, Debug, PartialEq, Eq)]
 pub enum SessionError {
+    /// An image is bad (`docs/FORMATS.md`, "What is bad").
+    Bad {
+        /// Which image.
+        side: Side,
+        /// The check that it fails.
+        cause: Cause,
+        /// Where.
+        place: u64,
+    },
     /// An image failed.
     Fault(Side),
     /// Memory was refused.
@@ -30,69 +51,94 @@ pub enum SessionError {
 /// Why a line has no reply. A refusal is a reply.
 #[derive(Clone, Copy, Debug, PartialEq, Eq)]
 pub enum LineEnd {
-    /// An image failed.
+    /// An image failed; no call on the session is made afterwards.
     Fault(Side),
     /// Memory was refused; no call on the session is made afterwards.
     Memory,
 }
 
-impl From<AllocError> for LineEnd {
-    ghost use Rattle.tm_machine.specs.declared.session.LineEnd.TheVariants.{Memory};
-
-    ghost from_gives = { λ _ end. end ≡ Memory };
-
-    fn from(_error: AllocError) -> LineEnd {
-        LineEnd::Memory
-    }
-}
-
-/// A volume and a store, each formatted or not, and the moment that was set last.
+/// A volume on its image and a store in memory, each formatted or not, and the moment that was set
+/// last.
 ///
-/// Seen as the state of the plain machine.
+/// Seen as these; with the disks it is a state of the plain machine.
 #[derive(Drop)]
 pub struct Session {
     pub(crate) alloc: Global,
+    pub(crate) volume_blocks: u32,
     pub(crate) volume: Option<Volume>,
     pub(crate) store: Option<Store>,
     pub(crate) moment: Option<Moment>,
 }
 
 impl Model for Session {
-    ghost use Rattle.tm_machine.specs.States.{State};
+    ghost use Rattle.tm_machine.specs.Session.{Seen};
 
-    ghost Value = { State };
+    ghost Value = { Seen };
 
-    ghost view = { λ s. record { volume = s.volume; store = s.store; moment = s.moment } };
+    ghost view = { λ s. record { volume_blocks = s.volume_blocks; volume = s.volume; store = s.store; moment = s.moment } };
 }
 
 impl Session {
-    /// A session on two images that aren't formatted. It makes no call of the world.
+    /// Opens a pair of images, of so many blocks, of which nothing is unsynced.
+    ///
+    /// A volume that was not closed cleanly begins a generation, in one commit. `Bad` comes where
+    /// the image of the volume is bad; that of the store is not read yet.
     pub fn load<W: World>(
         alloc: Global,
-        _world: &mut W,
-        _volume_blocks: u32,
+        world: &mut W,
+        volume_blocks: u32,
         _store_blocks: u32,
     ) -> Result<Session, SessionError>
-        ensures session { IfOk result (λ session. session ≡ blank) }
-        ensures loads { IsOk result }
-        ensures world { _world.new ≡ _world.old }
+        requires count { W.blocks world.old VolumeSide ≡ volume_blocks }
+        requires small { volume_blocks ≤ 262144 }
+        requires settled { W.told → IsSynced (now (W.log world.old)) }
+        ensures state { W.told → (r : Stored) → ReadsNow r (now (W.log world.old))
+            → IfOk result (λ s. state_on s (now (W.log world.new)) ≡ opened volume_blocks r) }
+        ensures any_moment { W.told → (r : Stored) → ReadsNow r (now (W.log world.old))
+            → Passes (W.log world.old) (W.log world.new) (LeavesCommits r (opening r) (now (W.log world.old)).said) }
+        ensures opens { W.told → IfOk result (λ _. CanOpen (as_read (disk VolumeSide (now (W.log world.old))))) }
+        ensures open { IfOk result (λ s. IsOpen s (W.blocks world.new)) }
+        ensures standing { W.told → IfOk result (λ s. Standing s (now (W.log world.new))) }
+        ensures bad { (side : Named) (cause : Cause) (place : ℕ) → result ≡ Err (SessionError.Bad side cause place)
+            → (side ≡ Named.Volume) × (3 ≤ volume_blocks) × (W.told → FailsVolume (as_read (disk VolumeSide (now (W.log world.old)))) cause place) }
+        ensures said { W.told → (now (W.log world.new)).said ≡ (now (W.log world.old)).said }
+        ensures blocks { W.blocks world.new ≡ W.blocks world.old }
+        ensures never_less { NeverLess (W.faults world.old) (W.faults world.new) }
+        ensures fault { (side : Named) → result ≡ Err (SessionError.Fault side) → Rose (W.faults world.old (part_of side)) (W.faults world.new (part_of side)) }
     {
+        let volume = match open_volume(alloc, world, volume_blocks) {
+            Ok(volume) => volume,
+            Err(error) => return Err(error),
+        };
         Ok(Session {
             alloc,
-            volume: None,
+            volume_blocks,
+            volume,
             store: None,
             moment: None,
         })
     }
 
-    /// Does a line and replies to it. It makes no call of the world.
-    pub fn line<W: World>(&mut self, _world: &mut W, line: &Line) -> Result<Reply, LineEnd>
-        ensures reply { IfOk result (λ answer. answer ≡ reply self.old line.now) }
-        ensures state { OnOk result (self.new ≡ step self.old line.now) }
-        ensures memory { IfErr result (λ end. end ≡ LineEnd.Memory) }
-        ensures world { _world.new ≡ _world.old }
+    /// Does a line and replies to it.
+    ///
+    /// What the line commits is on the image before the reply is given: a stop leaves what was
+    /// kept before the line, or after one of its commits. After `Ok` the session goes on; after a
+    /// fault or want of memory it is not to be used again.
+    pub fn line<W: World>(&mut self, world: &mut W, line: &Line) -> Result<Reply, LineEnd>
+        requires line { IsValidLine line.now }
+        requires open { IsOpen self.old (W.blocks world.old) }
+        requires standing { W.told → Standing self.old (now (W.log world.old)) }
+        ensures reply { W.told → IfOk result (λ answer. answer ≡ reply (state_on self.old (now (W.log world.old))) line.now) }
+        ensures state { W.told → OnOk result (state_on self.new (now (W.log world.new)) ≡ step (state_on self.old (now (W.log world.old))) line.now) }
+        ensures any_moment { W.told → let s = state_on self.old (now (W.log world.old)) in
+            Passes (W.log world.old) (W.log world.new) (LeavesCommits (kept s) (commits_of s line.now) (now (W.log world.old)).said) }
+        ensures open { OnOk result (IsOpen self.new (W.blocks world.new)) }
+        ensures standing { W.told → OnOk result (Standing self.new (now (W.log world.new))) }
+        ensures blocks { W.blocks world.new ≡ W.blocks world.old }
+        ensures never_less { NeverLess (W.faults world.old) (W.faults world.new) }
+        ensures fault { (side : Named) → result ≡ Err (LineEnd.Fault side) → Rose (W.faults world.old (part_of side)) (W.faults world.new (part_of side)) }
     {
-        match self.answer(line) {
+        match self.answer(world, line) {
             Ok(rows) => Ok(Reply {
                 rows,
                 refused: None,
@@ -108,46 +154,55 @@ impl Session {
 
     /// Ends the session. It makes no call of the world.
     pub fn close<W: World>(&mut self, _world: &mut W) -> Result<Option<Full>, LineEnd>
-        ensures closes { result ≡ Ok None }
-        ensures state { self.new ≡ self.old }
+        ensures closed { result ≡ Ok None }
+        ensures same { self.new ≡ self.old }
         ensures world { _world.new ≡ _world.old }
     {
         Ok(None)
     }
 
-    fn answer(&mut self, line: &Line) -> Result<ReplyRows, LineFault>
-        ensures { Answers self.old line.now self.new result }
+    // The data lines of a line, or why it has none.
+    fn answer<W: World>(&mut self, world: &mut W, line: &Line) -> Result<ReplyRows, LineFault>
+        requires line { IsValidLine line.now }
+        requires open { IsOpen self.old (W.blocks world.old) }
+        requires standing { W.told → Standing self.old (now (W.log world.old)) }
+        ensures does { W.told → let s = state_on self.old (now (W.log world.old)) in
+            Does (tests s line.now) (rows s line.now) (after s line.now) (commits_by s line.now (change_of line.now)) self.old self.new (W.log world.old) (W.log world.new) result }
+        ensures open { IfReplied result (IsOpen self.new (W.blocks world.new)) }
+        ensures blocks { W.blocks world.new ≡ W.blocks world.old }
+        ensures never_less { NeverLess (W.faults world.old) (W.faults world.new) }
+        ensures fault { (side : Named) → result ≡ Err (LineFault.Fault side) → Rose (W.faults world.old (part_of side)) (W.faults world.new (part_of side)) }
     {
         match change_of(line)? {
-            Some(change) => self.change(&change),
-            None => self.other(line),
+            Some(change) => self.change(world, &change),
+            None => self.other(world, line),
         }
     }
 
-    // A change of the volume's contents.
-    fn change(&mut self, change: &Change) -> Result<ReplyRows, LineFault>
-        ensures { AnswersBy (change_tests self.old change.now) [] (changed self.old change.now) self.old self.new result }
-    {
-        let Some(volume) = &mut self.volume else {
-            return Err(LineFault::Refused(Refused::NoVolume));
-        };
-        volume.change(change, self.moment)?;
-        Ok(ReplyRows::new(self.alloc))
-    }
-
     // The lines that change no contents of a volume.
-    fn other(&mut self, line: &Line) -> Result<ReplyRows, LineFault>
-        ensures { AnswersBy (other_tests self.old line.now) (rows self.old line.now) (other_after self.old line.now) self.old self.new result }
+    fn other<W: World>(&mut self, world: &mut W, line: &Line) -> Result<ReplyRows, LineFault>
+        requires line { IsValidLine line.now }
+        requires open { IsOpen self.old (W.blocks world.old) }
+        requires standing { W.told → Standing self.old (now (W.log world.old)) }
+        ensures does { W.told → let s = state_on self.old (now (W.log world.old)) in
+            Does (other_tests s line.now) (rows s line.now) (other_after s line.now) (other_commits s line.now) self.old self.new (W.log world.old) (W.log world.new) result }
+        ensures open { IfReplied result (IsOpen self.new (W.blocks world.new)) }
+        ensures blocks { W.blocks world.new ≡ W.blocks world.old }
+        ensures never_less { NeverLess (W.faults world.old) (W.faults world.new) }
+        ensures fault { (side : Named) → result ≡ Err (LineFault.Fault side) → Rose (W.faults world.old (part_of side)) (W.faults world.new (part_of side)) }
     {
+        standing_volume_is_left();
+        blank_is_left();
         match line {
             Line::At(date) => self.at(*date),
-            Line::NewVolume { name, id, events } => self.new_volume(name, *id, *events),
+            Line::NewVolume { name, id, events } => self.new_volume(world, name, *id, *events),
             Line::NewStore(machine) => self.new_store(machine),
             Line::StartBackupBlock => {
-                back_up(self.alloc, &self.volume, &mut self.store, self.moment)
+                let moment = self.moment;
+                back_up(self.alloc, world, &self.volume, &mut self.store, moment)
             }
             Line::Ls(path) => self.ls(path),
-            Line::Cat(path) => self.cat(path),
+            Line::Cat(path) => self.cat(world, path),
             Line::ListBackups => self.list_backups(),
             Line::LatestBackup => self.latest_backup(),
             Line::MachineDirectory => self.machine_directory(),
@@ -168,47 +223,4 @@ impl Session {
         self.moment = Some(date);
         Ok(ReplyRows::new(self.alloc))
     }
-
-    fn new_volume(&mut self, name: &Name, id: u128, events: u32) -> Result<ReplyRows, LineFault>
-        ensures { AnswersBy (new_volume_tests self.old id) []
-            (record self.old { volume = Some (new_volume name.now id events (unwrap_or self.old.moment 0)) }) self.old self.new result }
-    {
-        if self.volume.is_some() {
-            return Err(LineFault::Refused(Refused::Already));
-        }
-        let Some(moment) = self.moment else {
-            return Err(LineFault::Refused(Refused::NoMoment));
-        };
-        if self.is_taken(id) {
-            return Err(LineFault::Refused(Refused::IdTaken));
-        }
-        self.volume = Some(Volume::blank(self.alloc, name, id, events, moment)?);
-        Ok(ReplyRows::new(self.alloc))
-    }
-
-    fn new_store(&mut self, machine: &Name) -> Result<ReplyRows, LineFault>
-        ensures { AnswersBy (new_store_tests self.old) [] (record self.old { store = Some (new_store machine.now) }) self.old self.new result }
-    {
-        if self.store.is_some() {
-            return Err(LineFault::Refused(Refused::Already));
-        }
-        self.store = Some(Store::new(self.alloc, machine)?);
-        Ok(ReplyRows::new(self.alloc))
-    }
-
-    // Whether a snapshot of the store has this volume id.
-    fn is_taken(&self, id: u128) -> bool
-        ensures { result ≡ is_taken self.now.store id }
-    {
-        match &self.store {
-            Some(store) => has_id(store.snapshots(), id),
-            None => false,
-        }
-    }
-}
-
-fn has_id(snapshots: &[Snapshot], id: u128) -> bool
-    ensures { result ≡ list_any (λ s. s.id == id) snapshots.now }
-{
-    snapshots.iter().any(|snapshot| snapshot.id() == id)
 }

@@ -2,15 +2,14 @@
 ghost use Rattle.std.specs.Prelude.{◌≡◌, [], ◌∷◌, ◌++◌, map, IfOk, Some, None};
 ghost use Rattle.std.specs.Option.{option_map_or, option_copied};
 ghost use Rattle.tm_tree.specs.States.{latest};
-ghost use Rattle.tm_tree.specs.Changes.{item_tests};
-ghost use Rattle.tm_machine.specs.Queries.{path_row, date_row, snapshot_paths, latest_path, machine_rows, store_rows, date_of, named_snapshot, holding_snapshot, stored_tree, list_rows, content_rows};
-ghost use Rattle.tm_machine.specs.Steps.{on_volume, on_store, snapshot_tests, place_tests, stored_tests, content_tests};
+ghost use Rattle.tm_machine.specs.Queries.{path_row, date_row, snapshot_paths, latest_path, machine_rows, store_rows, date_of, named_snapshot, holding_snapshot, stored_tree, content_rows};
+ghost use Rattle.tm_machine.specs.Steps.{on_store, snapshot_tests, place_tests, stored_tests, content_tests};
 ghost use Rattle.tm_machine.specs.Answers.{AnswersBy, AnswersQuery};
 
 use crate::items::{list_item, tell_contents};
 use crate::session::Session;
 use std::alloc::{AllocError, Global};
-use tm_base::{LineFault, Moment, Name, Path, Refused};
+use tm_base::{LineFault, Moment, Name, Refused};
 use tm_plain::{Snapshot, Store};
 use tm_reply::{ReplyRow, ReplyRows};
 use tm_text::{ItemAt, SnapshotAt, StorePath, Which};
@@ -157,28 +156,6 @@ impl Session {
             return Err(LineFault::Refused(Refused::NoSnapshot));
         };
         tell_contents(self.alloc, snapshot.tree(), &item.path)
-    }
-
-    /// `ls`.
-    pub(crate) fn ls(&self, path: &Path) -> Result<ReplyRows, LineFault>
-        ensures { AnswersBy (on_volume self.now.volume (λ v. item_tests v.contents.tree path.now))
-            (option_map_or (λ v. list_rows v.contents.tree path.now) self.now.volume []) self.now self.now self.now result }
-    {
-        match &self.volume {
-            Some(volume) => list_item(self.alloc, volume, path),
-            None => Err(LineFault::Refused(Refused::NoVolume)),
-        }
-    }
-
-    /// `cat`.
-    pub(crate) fn cat(&self, path: &Path) -> Result<ReplyRows, LineFault>
-        ensures { AnswersBy (on_volume self.now.volume (λ v. content_tests v.contents.tree path.now))
-            (option_map_or (λ v. content_rows v.contents.tree path.now) self.now.volume []) self.now self.now self.now result }
-    {
-        match &self.volume {
-            Some(volume) => tell_contents(self.alloc, volume, path),
-            None => Err(LineFault::Refused(Refused::NoVolume)),
-        }
     }
 }
 

@@ -1,3 +1,4 @@
 pub mod ItemsOf
 pub mod Entries
 pub mod Runs
+pub mod Backups

@@ -14,8 +14,9 @@ mod volume;
 
 pub use items::Entry;
 pub use labelled::LabelledTree;
-pub use store::{Snapshot, Store};
+pub use store::{Snapshot, Source, Store};
 pub use tree::Tree;
+pub use view::FixedPaths;
 pub use volume::Volume;
 
 #[cfg(test)]

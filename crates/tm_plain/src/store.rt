@@ -3,11 +3,11 @@ ghost use Rattle.std.specs.Prelude.{◌≡◌, ◌^◌, ◌<◌, ◌==◌, find,
 ghost use Rattle.std.specs.Option.{option_copied};
 ghost use Rattle.tm_tree.specs.Copies.{copy};
 ghost use Rattle.tm_tree.specs.Lookups.{snapshot_at, snapshot_under};
-ghost use Rattle.tm_tree.specs.States.{base, backed_up, latest, new_store, snapshot_of};
-ghost use Rattle.tm_tree.specs.Views.{view};
+ghost use Rattle.tm_plain.specs.Backups.{seen_source, snapshot_of, completed};
+ghost use Rattle.tm_tree.specs.States.{base, latest, new_store};
 
 use crate::labelled::LabelledTree;
-use crate::volume::Volume;
+use crate::tree::Tree;
 use std::alloc::{AllocError, Global};
 use std::marker::Model;
 use tm_base::{Moment, Name};
@@ -83,6 +83,21 @@ impl Snapshot {
     {
         &self.tree
     }
+}
+
+/// What a backup takes of a volume.
+#[derive(Clone, Copy)]
+pub struct Source<'a> {
+    /// The volume's name.
+    pub name: &'a Name,
+    /// Its id.
+    pub id: u128,
+    /// The generation of its journal.
+    pub generation: u64,
+    /// The number that it draws next.
+    pub next: u64,
+    /// Its tree without the exclusions.
+    pub view: &'a Tree,
 }
 
 /// A store: the machine's name, the number of the next backup, and the snapshots by rising date.
@@ -181,46 +196,44 @@ impl Store {
     }
 
     /// Finishes a backup of a volume that was started at `date`: a new snapshot has the labelled copy
-    /// of the view as it is now, over the last snapshot's tree if that is of this volume, and else
-    /// over none. Where memory is refused, the store stays as it was.
+    /// of the view, over the last snapshot's tree if that is of this volume, and else over none.
+    /// Where memory is refused, the store stays as it was.
     ///
     /// A caller asks first whether a number is left, which is refused as
     /// [`Refused::IdsSpent`](tm_base::Refused::IdsSpent).
-    pub fn complete(&mut self, volume: &Volume, date: Moment) -> Result<(), AllocError>
+    pub fn complete(&mut self, source: &Source<'_>, date: Moment) -> Result<(), AllocError>
         requires { self.old.number < 2 ^ 40 }
-        ensures ok { OnOk result (self.new ≡ backed_up self.old volume.now date) }
+        ensures ok { OnOk result (self.new ≡ completed self.old (seen_source source.now) date) }
         ensures err { OnErr result (self.new ≡ self.old) }
     {
-        let snapshot = self.snapshot_of(volume, date)?;
+        let snapshot = self.snapshot_of(source, date)?;
         self.snapshots.push(snapshot)?;
         self.number += 1;
         Ok(())
     }
 
-    fn snapshot_of(&self, volume: &Volume, date: Moment) -> Result<Snapshot, AllocError>
-        ensures { IfOk result (λ snapshot. snapshot ≡ snapshot_of self.now volume.now date) }
+    fn snapshot_of(&self, source: &Source<'_>, date: Moment) -> Result<Snapshot, AllocError>
+        ensures { IfOk result (λ snapshot. snapshot ≡ snapshot_of self.now (seen_source source.now) date) }
     {
         Ok(Snapshot {
             date,
-            volume: volume.name().clone()?,
-            id: volume.id(),
-            generation: volume.generation(),
-            cursor: volume.next().saturating_sub(1),
-            tree: self.copied(volume)?,
+            volume: source.name.clone()?,
+            id: source.id,
+            generation: source.generation,
+            cursor: source.next.saturating_sub(1),
+            tree: self.copied(source)?,
         })
     }
 
-    fn copied(&self, volume: &Volume) -> Result<LabelledTree, AllocError>
-        ensures { IfOk result (λ tree. tree ≡ copy self.now.number (base self.now volume.now.id)
-            (view volume.now.contents.fixed volume.now.contents.tree)) }
+    fn copied(&self, source: &Source<'_>) -> Result<LabelledTree, AllocError>
+        ensures { IfOk result (λ tree. tree ≡ copy self.now.number (base self.now source.now.id) source.now.view.now) }
     {
-        let view = volume.view()?;
         let none = LabelledTree::new(self.alloc);
         let base = match self.latest() {
-            Some(snapshot) if snapshot.id == volume.id() => &snapshot.tree,
+            Some(snapshot) if snapshot.id == source.id => &snapshot.tree,
             _ => &none,
         };
-        base.copy(self.number, &view)
+        base.copy(self.number, source.view)
     }
 }
 

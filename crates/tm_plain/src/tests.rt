@@ -1,5 +1,5 @@
 //! What no clause says: that the calls succeed, and rows worked out by hand.
-use crate::{LabelledTree, Store, Tree, Volume};
+use crate::{LabelledTree, Source, Store, Tree, Volume};
 use std::test::Fail;
 use tm_base::{LineFault, Moment, Name, Path, Refused};
 use tm_tree::{Attrs, Change, Item, Way};
@@ -154,16 +154,30 @@ fn machine(rt: &HostRuntime) -> Result<Name, Fail> {
     Ok(Name::read(rt.alloc(), b"Mac")?)
 }
 
+// A backup of a volume as it is now.
+fn back_up(store: &mut Store, volume: &Volume, date: Moment) -> Result<(), Fail> {
+    let view = volume.view()?;
+    let source = Source {
+        name: volume.name(),
+        id: volume.id(),
+        generation: volume.generation(),
+        next: volume.next(),
+        view: &view,
+    };
+    if store.number() < 9 {
+        store.complete(&source, date)?;
+    }
+    Ok(())
+}
+
 // A store with two backups: the second has the file `g` besides.
 fn store(rt: &HostRuntime) -> Result<Store, Fail> {
     let mut volume = volume(rt)?;
     let mut store = Store::new(rt.alloc(), &machine(rt)?)?;
     volume.change(&fill(rt, "f")?, Some(moment(30)?))?;
-    store.complete(&volume, moment(30)?)?;
+    back_up(&mut store, &volume, moment(30)?)?;
     volume.change(&fill(rt, "g")?, Some(moment(40)?))?;
-    if store.number() < 9 {
-        store.complete(&volume, moment(40)?)?;
-    }
+    back_up(&mut store, &volume, moment(40)?)?;
     Ok(store)
 }
 

@@ -54,8 +54,8 @@ impl Tree {
         Ok(Tree { alloc, items })
     }
 
-    /// A tree of these items.
-    pub(crate) fn of(alloc: Global, items: BTreeMap<Path, Item>) -> Tree
+    /// A tree of these items. It takes no memory.
+    pub fn of(alloc: Global, items: BTreeMap<Path, Item>) -> Tree
         ensures { result ≡ items.entries }
     {
         Tree { alloc, items }

@@ -2,5 +2,8 @@ pub mod CommandLemmas
 pub mod ScriptLemmas
 pub mod SayLemmas
 pub mod LoopLemmas
+pub mod PairLemmas
+pub mod SessionLemmas
+pub mod ImageLemmas
 pub mod OutcomeLemmas
 pub mod TopLemmas

@@ -4,7 +4,7 @@ use Rattle.tm_text.specs.declared.line.Line.{Line}
 use Rattle.tm_reply.specs.Replies.{reply_text}
 use Rattle.tm_machine.specs.States.{State}
 use Rattle.tm_machine.specs.Steps.{reply, refusal, step}
-use Rattle.tm_machine.specs.Runs.{said_of, any_refused}
+use Rattle.tm_machine.specs.Runs.{said_of, any_refused, state_after}
 
 lines_more : (lines : List Line) (i : ℕ) (l : Line) → i < length lines → l ≡ get_or lines i l → drop i lines ≡ l ∷ drop (i + 1) lines
 lines_more lines i l low is = rw (add-one, drop-cons lines i l) (ap (λ (x : Line). x ∷ drop (suc i) lines) (sym is))
@@ -25,3 +25,8 @@ refused_more s t lines i l before this whole low is after refused so_far =
     ∙ ap (λ (b : Bool). before || b) (ap (any_refused s) (lines_more lines i l low is) ∙ ap (λ (u : State). is_some (refusal s l) || any_refused u (drop (i + 1) lines)) (sym after)
     ∙ ap (λ (b : Bool). b || any_refused t (drop (i + 1) lines)) (sym refused))
     ∙ or_assoc before this _
+
+pub state_more : (s t : State) (lines : List Line) (i : ℕ) (l : Line) → i < length lines → l ≡ get_or lines i l → t ≡ step s l
+    → state_after s (drop i lines) ≡ state_after t (drop (i + 1) lines)
+state_more s t lines i l low is after =
+    ap (state_after s) (lines_more lines i l low is) ∙ ap (λ (u : State). state_after u (drop (i + 1) lines)) (sym after)

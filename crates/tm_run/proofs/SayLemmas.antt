@@ -1,11 +1,24 @@
 -- What was said.
-use Rattle.std.proofs.Common.{◌≡◌, ℕ, List, ◌++◌, take, drop, length, length-append, Result, Ok, Err, OnOk, sym, ap, ◌∙◌, arith, append_assoc, append-nil, ◌+◌}
+use Rattle.std.proofs.Common.{◌≡◌, ℕ, List, ◌++◌, take, drop, length, length-append, Result, Ok, Err, OnOk, codes, refl, sym, ap, ◌∙◌, arith, append_assoc, append-nil, ◌+◌}
 use Rattle.std.proofs.lemmas.List.{take_all, take-append-le, take-append-drop}
 use Rattle.std.proofs.Math.Seq.{take-append-add, drop-append_seam}
-use Rattle.tm_world.specs.Outside.{Outside}
+use Rattle.tm_world.specs.Outside.{Outside, spoke}
 use Rattle.tm_world.specs.Log.{Log, now, Says}
 use Rattle.tm_world.proofs.Pairs.{Says-ends}
 use Rattle.tm_run.specs.Ends.{SaysAll, SaysPrefix}
+use Rattle.std.specs.Fmt.{decimal}
+use Rattle.tm_base.specs.declared.refused.Side.{Side}
+use Rattle.tm_world.specs.declared.cause.Cause.{Cause}
+use Rattle.tm_run.specs.Outcomes.{bad_image_line, cause_word, side_word}
+use Rattle.tm_run.specs.Pairs.{KeepsPair}
+
+-- the line on a bad image, by its words
+pub bad_image_is : (s : Side) (c : Cause) (place : ℕ) (which why text : List ℕ) → which ≡ side_word s → why ≡ cause_word c
+    → text ≡ codes "bad image " ++ (which ++ (codes " " ++ (why ++ (codes " " ++ (decimal place ++ codes "\n"))))) → text ≡ bad_image_line s c place
+unfolding bad_image_line
+bad_image_is s c place which why text is_side is_cause is =
+    is ∙ ap (λ (w : List ℕ). codes "bad image " ++ (w ++ (codes " " ++ (why ++ (codes " " ++ (decimal place ++ codes "\n")))))) is_side
+    ∙ ap (λ (w : List ℕ). codes "bad image " ++ (side_word s ++ (codes " " ++ (w ++ (codes " " ++ (decimal place ++ codes "\n")))))) is_cause
 
 pub said_part : (old new : Log) (bytes : List ℕ) (n : ℕ) → Says old new bytes n → SaysPrefix bytes (now old) (now new)
 said_part old new bytes n says = record { count = n; within = says.within; part = (Says-ends old new bytes n says).0 }
@@ -50,3 +63,22 @@ prefix_more whole text rest old mid new first next is =
 pub whole_more : (whole text rest : List ℕ) (old mid new : Outside) → SaysAll text mid new
     → old.said ++ whole ≡ mid.said ++ (text ++ rest) → old.said ++ whole ≡ new.said ++ rest
 whole_more whole text rest old mid new next is = is ∙ sym (append_assoc mid.said text rest) ∙ ap (λ (t : List ℕ). t ++ rest) (sym next.all)
+
+-- both sides are as they were
+pub said_beside : (old new : Log) (bytes : List ℕ) (n : ℕ) → Says old new bytes n → KeepsPair (now old) (now new)
+said_beside old new bytes n says = let ends = Says-ends old new bytes n says in record { sides = ends.1; apart = ends.2 }
+
+-- no image is another
+spoke_stands : (bytes : List ℕ) (s : Outside) → (spoke bytes s).stands ≡ s.stands
+unfolding spoke
+spoke_stands bytes s = refl
+
+pub said_stands : (old new : Log) (bytes : List ℕ) (n : ℕ) → Says old new bytes n → (now new).stands ≡ (now old).stands
+said_stands old new bytes n says = ap (λ (s : Outside). s.stands) says.ends ∙ spoke_stands (take n bytes) (now old)
+
+-- what was said before is the same
+pub all_after : (text : List ℕ) (old mid new : Outside) → mid.said ≡ old.said → SaysAll text mid new → SaysAll text old new
+all_after text old mid new same says = record { all = says.all ∙ ap (λ (t : List ℕ). t ++ text) same }
+
+pub prefix_after : (text : List ℕ) (old mid new : Outside) → mid.said ≡ old.said → SaysPrefix text mid new → SaysPrefix text old new
+prefix_after text old mid new same says = record { count = says.count; within = says.within; part = says.part ∙ ap (λ (t : List ℕ). t ++ take says.count text) same }

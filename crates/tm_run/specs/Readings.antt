@@ -21,10 +21,9 @@ ReadsLines outside path (Err Memory) = Unit {0}
 abbrev pub IsOneOf : Status → Status → Type 0
 IsOneOf wanted ended = (ended ≡ wanted) ⊎ ((ended ≡ status.Memory) ⊎ (ended ≡ status.OutFault))
 
--- how a run of lines ends
+-- how a run of lines over images ends
 abbrev pub IsEndOfLines : Status → Type 0
-IsEndOfLines status.Done = Unit {0}
-IsEndOfLines status.DoneRefused = Unit {0}
-IsEndOfLines status.Memory = Unit {0}
-IsEndOfLines status.OutFault = Unit {0}
-IsEndOfLines _ = ⊥
+IsEndOfLines status.Usage = ⊥
+IsEndOfLines (status.Script line) = ⊥
+IsEndOfLines status.ScriptFault = ⊥
+IsEndOfLines _ = Unit {0}

@@ -1,13 +1,18 @@
 //! The law of outcomes.
-ghost use Rattle.tm_run.specs.Outcomes.{OneOutcome};
+ghost use Rattle.tm_run.specs.Outcomes.{OneOutcome, OneStart, StartsRun};
 
 use tm_text::{bad_is_outside, one_first_bad_line, one_meaning};
+use tm_volume::laws::{sides_read_as_one, volume_fails_once};
 
 /// Some words and what stands outside give one outcome at most.
 pub fn one_outcome()
-    ensures { OneOutcome }
+    ensures one { OneOutcome }
+    ensures start { OneStart }
+    ensures run { StartsRun }
 {
     one_meaning();
     bad_is_outside();
     one_first_bad_line();
+    sides_read_as_one();
+    volume_fails_once();
 }

@@ -2,9 +2,11 @@
 #![tactic(auto)]
 
 mod command;
+mod images;
 mod laws;
 mod lines;
 mod output;
+mod pair;
 mod script;
 mod status;
 mod top;

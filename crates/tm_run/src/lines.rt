@@ -1,16 +1,20 @@
 //! The lines of a script, one after the other.
-ghost use Rattle.std.specs.Prelude.{◌≡◌, IfOk, OnOk, Err, is_some};
+ghost use Rattle.std.specs.Prelude.{◌≡◌, IfOk, OnOk, Err, All, is_some};
+ghost use Rattle.tm_base.specs.declared.refused.Side.{Side as Named};
+ghost use Rattle.tm_machine.specs.Session.{IsOpen, Standing, part_of, state_on};
+ghost use Rattle.tm_text.specs.Bounds.{IsValidLine};
 ghost use Rattle.tm_world.specs.declared.world.Part.{Part};
 ghost use Rattle.tm_world.specs.Log.{now};
 ghost use Rattle.tm_world.specs.Faults.{Rose, NeverLess};
-ghost use Rattle.tm_machine.specs.Runs.{said_of, any_refused};
+ghost use Rattle.tm_machine.specs.Runs.{said_of, any_refused, state_after};
 ghost use Rattle.tm_machine.specs.Steps.{reply, refusal, step};
 ghost use Rattle.tm_reply.specs.Replies.{reply_text};
 ghost use Rattle.tm_run.specs.Ends.{SaysAll, SaysPrefix};
 
 use crate::output::say;
 use std::alloc::{AllocError, Global};
-use tm_machine::Session;
+use tm_base::Side;
+use tm_machine::{LineEnd, Session};
 use tm_reply::print;
 use tm_text::Line;
 use tm_world::{Failed, World};
@@ -20,6 +24,8 @@ use tm_world::{Failed, World};
 pub(crate) enum RunEnd {
     /// The output failed.
     OutFault,
+    /// An image failed.
+    Device(Side),
     /// Memory was refused.
     Memory,
 }
@@ -51,17 +57,24 @@ fn run_line<W: World>(
     world: &mut W,
     line: &Line,
 ) -> Result<bool, RunEnd>
-    ensures refused { IfOk result (λ refused. refused ≡ is_some (refusal session.old line.now)) }
-    ensures state { OnOk result (session.new ≡ step session.old line.now) }
-    ensures said { W.told → OnOk result (SaysAll (reply_text (reply session.old line.now)) (now (W.log world.old)) (now (W.log world.new))) }
-    ensures cut { W.told → SaysPrefix (reply_text (reply session.old line.now)) (now (W.log world.old)) (now (W.log world.new)) }
+    requires line { IsValidLine line.now }
+    requires open { IsOpen session.old (W.blocks world.old) }
+    requires standing { W.told → Standing session.old (now (W.log world.old)) }
+    ensures refused { W.told → IfOk result (λ refused. refused ≡ is_some (refusal (state_on session.old (now (W.log world.old))) line.now)) }
+    ensures state { W.told → OnOk result (state_on session.new (now (W.log world.new)) ≡ step (state_on session.old (now (W.log world.old))) line.now) }
+    ensures said { W.told → OnOk result (SaysAll (reply_text (reply (state_on session.old (now (W.log world.old))) line.now)) (now (W.log world.old)) (now (W.log world.new))) }
+    ensures cut { W.told → SaysPrefix (reply_text (reply (state_on session.old (now (W.log world.old))) line.now)) (now (W.log world.old)) (now (W.log world.new)) }
+    ensures open { OnOk result (IsOpen session.new (W.blocks world.new)) }
+    ensures standing { W.told → OnOk result (Standing session.new (now (W.log world.new))) }
     ensures blocks { W.blocks world.new ≡ W.blocks world.old }
     ensures never_less { NeverLess (W.faults world.old) (W.faults world.new) }
     ensures fault { result ≡ Err RunEnd.OutFault → Rose (W.faults world.old Part.Out) (W.faults world.new Part.Out) }
+    ensures device { (side : Named) → result ≡ Err (RunEnd.Device side) → Rose (W.faults world.old (part_of side)) (W.faults world.new (part_of side)) }
 {
     let reply = match session.line(world, line) {
         Ok(reply) => reply,
-        Err(_) => return Err(RunEnd::Memory),
+        Err(LineEnd::Fault(side)) => return Err(RunEnd::Device(side)),
+        Err(LineEnd::Memory) => return Err(RunEnd::Memory),
     };
     let text = match print(alloc, &reply) {
         Ok(text) => text,
@@ -78,12 +91,19 @@ pub(crate) fn run_lines<W: World>(
     world: &mut W,
     lines: &[Line],
 ) -> Result<bool, RunEnd>
-    ensures refused { IfOk result (λ refused. refused ≡ any_refused session.old lines.now) }
-    ensures said { W.told → OnOk result (SaysAll (said_of session.old lines.now) (now (W.log world.old)) (now (W.log world.new))) }
-    ensures cut { W.told → SaysPrefix (said_of session.old lines.now) (now (W.log world.old)) (now (W.log world.new)) }
+    requires lines { All IsValidLine lines.now }
+    requires open { IsOpen session.old (W.blocks world.old) }
+    requires standing { W.told → Standing session.old (now (W.log world.old)) }
+    ensures refused { W.told → IfOk result (λ refused. refused ≡ any_refused (state_on session.old (now (W.log world.old))) lines.now) }
+    ensures state { W.told → OnOk result (state_on session.new (now (W.log world.new)) ≡ state_after (state_on session.old (now (W.log world.old))) lines.now) }
+    ensures said { W.told → OnOk result (SaysAll (said_of (state_on session.old (now (W.log world.old))) lines.now) (now (W.log world.old)) (now (W.log world.new))) }
+    ensures cut { W.told → SaysPrefix (said_of (state_on session.old (now (W.log world.old))) lines.now) (now (W.log world.old)) (now (W.log world.new)) }
+    ensures open { OnOk result (IsOpen session.new (W.blocks world.new)) }
+    ensures standing { W.told → OnOk result (Standing session.new (now (W.log world.new))) }
     ensures blocks { W.blocks world.new ≡ W.blocks world.old }
     ensures never_less { NeverLess (W.faults world.old) (W.faults world.new) }
     ensures fault { result ≡ Err RunEnd.OutFault → Rose (W.faults world.old Part.Out) (W.faults world.new Part.Out) }
+    ensures device { (side : Named) → result ≡ Err (RunEnd.Device side) → Rose (W.faults world.old (part_of side)) (W.faults world.new (part_of side)) }
 {
     let mut refused = false;
     for line in lines {

@@ -2,6 +2,9 @@
 ghost use Rattle.std.specs.Prelude.{◌≡◌};
 ghost use Rattle.tm_run.specs.Codes.{code_of};
 
+use tm_base::Side;
+use tm_world::Cause;
+
 /// How a run ends (`docs/SCRIPT.md`, "The end of a run").
 #[derive(Clone, Copy, Debug, PartialEq, Eq)]
 pub enum Status {
@@ -15,6 +18,20 @@ pub enum Status {
     Script {
         /// The first bad line, counted from 1; 0 where the script is too long.
         line: u64,
+    },
+    /// An image is bad; no line was done (`docs/FORMATS.md`, "What is bad").
+    BadImage {
+        /// Which image.
+        side: Side,
+        /// The check that it fails.
+        cause: Cause,
+        /// Where.
+        place: u64,
+    },
+    /// An image could not be opened, read or written.
+    Device {
+        /// Which image.
+        side: Side,
     },
     /// Memory was refused.
     Memory,
@@ -34,6 +51,8 @@ impl Status {
             Status::DoneRefused => 1,
             Status::Usage => 2,
             Status::Script { .. } => 3,
+            Status::BadImage { .. } => 4,
+            Status::Device { .. } => 5,
             Status::Memory => 6,
             Status::ScriptFault => 7,
             Status::OutFault => 8,

@@ -1,10 +1,10 @@
-use Rattle.std.proofs.Common.{ap}
+use Rattle.std.proofs.Common.{ap, ◌∙◌, is_some}
+use Rattle.tm_reply.specs.declared.reply.Reply.{Reply}
 use Rattle.tm_world.specs.Log.{now}
-use Rattle.tm_machine.specs.Steps.{reply}
-use Rattle.tm_reply.specs.Replies.{reply_text}
-use Rattle.tm_run.proofs.SayLemmas.{said_nothing}
+use Rattle.tm_machine.specs.Session.{state_on}
+use Rattle.tm_run.proofs.SessionLemmas.{refused_is}
 use Rattle.tm_run.proofs.lines.run_line.Goals as goal
 
-pub returns-in-Err-print-clause-cut : goal.returns-in-Err-print-clause-cut
-returns-in-Err-print-clause-cut g c told =
-    said_nothing (reply_text (reply c.args.session.now c.args.line.now)) _ _ (ap (λ w. (now (g.W.World.log w)).said) c.line.ensures.world)
+pub returns-clause-refused : goal.returns-clause-refused
+returns-clause-refused g c told =
+    c.is_some.ensures ∙ ap is_some (ap (λ (r : Reply). r.refused) (c.in-Ok.ensures.reply told) ∙ refused_is (state_on c.args.session.now (now (g.W.World.log c.args.world.now))) c.args.line.now)

@@ -3,4 +3,4 @@ use Rattle.tm_tree.specs.Views.{hidden_paths}
 use Rattle.tm_plain.proofs.tree.Tree.hidden.Given as goal
 
 abbrev pub invariant-loop-path : goal.invariant-loop-path
-invariant-loop-path l = l.hidden.items ++ hidden_paths l.fixed.keys l.path-iterator ≡ hidden_paths l.fixed.keys l.self
+invariant-loop-path g l = l.hidden.items ++ hidden_paths (g.F.FixedPaths.paths l.fixed) l.path-iterator ≡ hidden_paths (g.F.FixedPaths.paths l.fixed) l.self

@@ -2,7 +2,7 @@ use Rattle.std.proofs.Common.{List, ℕ, subst, ◌∙◌}
 use Rattle.tm_world.specs.Log.{now}
 use Rattle.tm_run.specs.Ends.{SaysPrefix}
 use Rattle.tm_run.specs.Outcomes.{bad_line}
-use Rattle.tm_run.proofs.top.say_bad_line.Goals as goal
+use Rattle.tm_run.proofs.output.say_bad_line.Goals as goal
 
 pub returns-in-Ok-clause-cut : goal.returns-in-Ok-clause-cut
 unfolding bad_line

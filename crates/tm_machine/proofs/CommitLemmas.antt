@@ -1,0 +1,71 @@
+-- The last commit, and that each line has a reply.
+use Rattle.std.proofs.Common.{◌≡◌, ℕ, ◌+◌, ◌<◌, Bool, true, false, if◌then◌else◌, Option, Some, None, List, [], ◌∷◌, ◌++◌, length, codes, refl, sym, ap, ◌∙◌, arith}
+use Rattle.std.specs.Option.{option_map}
+use Rattle.std.proofs.lemmas.List.{length-append}
+use Rattle.tm_base.specs.declared.refused.Refused.{Refused}
+use Rattle.std.specs.Fmt.{decimal}
+use Rattle.tm_base.specs.Refusals.{number_of}
+use Rattle.tm_reply.specs.Closings.{closing_text, refusal_text}
+use Rattle.tm_reply.specs.Layout.{spaced, line_of}
+use Rattle.tm_reply.specs.Replies.{reply_text, rows_text}
+use Rattle.tm_text.specs.declared.line.Line.{Line}
+use Rattle.tm_text.specs.declared.line.Line.TheVariants as line
+use Rattle.tm_tree.specs.declared.change.Change.{Change}
+use Rattle.tm_volume.specs.Stored.{StoredVolume, reopened}
+use Rattle.tm_machine.specs.Changing.{change_of}
+use Rattle.tm_machine.specs.Runs.{state_after}
+use Rattle.tm_machine.specs.States.{State, Stored, kept, opened}
+use Rattle.tm_machine.specs.Steps as steps
+use Rattle.tm_machine.specs.Steps.{after, after_by, other_after, refusal, reply, step}
+use Rattle.tm_machine.specs.Commits.{last_from, opening, other_commits, commits_by, unless_refused, commits_of, commits, LastOfLine, LastOfLines, LastOfOpening, RepliesAreSome}
+
+pub last_from-append : {A : Type 0} (x : A) (xs ys : List A) → last_from x (xs ++ ys) ≡ last_from (last_from x xs) ys
+last_from-append x [] ys = refl
+last_from-append x (y ∷ xs) ys = last_from-append y xs ys
+
+other_last : (s : State) (l : Line) → last_from (kept s) (other_commits s l) ≡ kept (other_after s l)
+other_last s (line.NewVolume name id events) = refl
+other_last s _ = refl
+
+made_last : (s : State) (l : Line) (c : Option Change) → last_from (kept s) (commits_by s l c) ≡ kept (after_by s l c)
+made_last s l (Some c) = refl
+made_last s l None = other_last s l
+
+unless_last : (why : Option Refused) (s new : State) (made : List Stored) → last_from (kept s) made ≡ kept new
+    → last_from (kept s) (unless_refused why made) ≡ kept (steps.unless_refused why s new)
+unless_last None s new made h = h
+unless_last (Some why) s new made h = refl
+
+pub last_of_line : LastOfLine
+last_of_line s l = unless_last (refusal s l) s (after s l) (commits_by s l (change_of l)) (made_last s l (change_of l))
+
+pub last_of_lines : LastOfLines
+last_of_lines s [] = refl
+last_of_lines s (l ∷ lines) =
+    last_from-append (kept s) (commits_of s l) (commits (step s l) lines)
+    ∙ ap (λ (x : Stored). last_from x (commits (step s l) lines)) (last_of_line s l)
+    ∙ last_of_lines (step s l) lines
+
+abbrev with_volume : StoredVolume → Stored
+with_volume v = record { volume = Some v }
+
+clean_last : (b : Bool) (v new : StoredVolume)
+    → last_from (with_volume v) (if b then [] else with_volume (if b then v else new) ∷ []) ≡ with_volume (if b then v else new)
+clean_last true v new = refl
+clean_last false v new = refl
+
+opened_last : (blocks : ℕ) (v : Option StoredVolume) → last_from (record { volume = v }) (opening (record { volume = v })) ≡ kept (opened blocks (record { volume = v }))
+opened_last blocks None = refl
+opened_last blocks (Some v) = clean_last v.clean v _
+
+pub last_of_opening : LastOfOpening
+last_of_opening blocks r = opened_last blocks r.volume
+
+closing_some : (why : Option Refused) → 0 < length (closing_text why)
+unfolding closing_text
+closing_some None = omega (arith, length-append (codes "ok") (0x0A ∷ []))
+closing_some (Some r) = omega (arith, length-append (codes "refused") (0x20 ∷ line_of (decimal (number_of r) ∷ refusal_text r ∷ [])))
+
+pub replies_are_some : RepliesAreSome
+unfolding reply_text
+replies_are_some s l = omega (arith, closing_some (reply s l).refused, length-append (rows_text (reply s l).rows) (closing_text (reply s l).refused))

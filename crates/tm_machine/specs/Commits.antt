@@ -1,0 +1,69 @@
+-- The commits: each state that the images pass, from opening on.
+use Rattle.std.specs.Prelude.{◌≡◌, ℕ, ◌<◌, if◌then◌else◌, Option, Some, None, List, [], ◌∷◌, ◌++◌, length}
+use Rattle.tm_base.specs.declared.refused.Refused.{Refused}
+use Rattle.tm_reply.specs.Replies.{reply_text}
+use Rattle.tm_text.specs.declared.line.Line.{Line}
+use Rattle.tm_text.specs.declared.line.Line.TheVariants as line
+use Rattle.tm_tree.specs.declared.change.Change.{Change}
+use Rattle.tm_volume.specs.Stored.{StoredVolume, reopened}
+use Rattle.tm_machine.specs.Changing.{change_of}
+use Rattle.tm_machine.specs.Runs.{state_after}
+use Rattle.tm_machine.specs.States.{State, Stored, kept, opened}
+use Rattle.tm_machine.specs.Steps.{changed, other_after, refusal, reply, step}
+
+-- the last of a list, or what was there before it
+abbrev pub last_from : {A : Type 0} → A → List A → A
+last_from x [] = x
+last_from x (y ∷ ys) = last_from y ys
+
+-- ---- opening
+
+abbrev pub opening_of : Option StoredVolume → List Stored
+opening_of None = []
+opening_of (Some v) = if v.clean then [] else record { volume = Some (reopened v) } ∷ []
+
+-- the commit of opening: a volume that was not closed cleanly begins a generation
+abbrev pub opening : Stored → List Stored
+opening r = opening_of r.volume
+
+-- ---- a line
+
+abbrev pub other_commits : State → Line → List Stored
+other_commits s (line.NewVolume name id events) = kept (other_after s (line.NewVolume name id events)) ∷ []
+other_commits s _ = []
+
+abbrev pub commits_by : State → Line → Option Change → List Stored
+commits_by s l (Some c) = kept (changed s c) ∷ []
+commits_by s l None = other_commits s l
+
+abbrev pub unless_refused : Option Refused → List Stored → List Stored
+unless_refused None made = made
+unless_refused (Some why) made = []
+
+-- the commits of a line: a refused line has none
+abbrev pub commits_of : State → Line → List Stored
+commits_of s l = unless_refused (refusal s l) (commits_by s l (change_of l))
+
+-- ---- lines
+
+-- those of all of them, in order
+abbrev pub commits : State → List Line → List Stored
+commits s [] = []
+commits s (l ∷ lines) = commits_of s l ++ commits (step s l) lines
+
+-- ---- laws
+
+-- the last commit of a line is what is kept of the state after it
+abbrev pub LastOfLine : Type 0
+LastOfLine = (s : State) (l : Line) → last_from (kept s) (commits_of s l) ≡ kept (step s l)
+
+abbrev pub LastOfLines : Type 0
+LastOfLines = (s : State) (lines : List Line) → last_from (kept s) (commits s lines) ≡ kept (state_after s lines)
+
+-- and that of opening is what is kept of the opened state
+abbrev pub LastOfOpening : Type 0
+LastOfOpening = (blocks : ℕ) (r : Stored) → last_from r (opening r) ≡ kept (opened blocks r)
+
+-- each line has a reply
+abbrev pub RepliesAreSome : Type 0
+RepliesAreSome = (s : State) (l : Line) → 0 < length (reply_text (reply s l))

@@ -1,0 +1,104 @@
+-- What callers see of a session, and what stands on the disks beneath it.
+use Rattle.std.specs.Prelude.{◌≡◌, ◌≤◌, ℕ, false, Option, Some, None, IfSome, Result, Ok, Err, List}
+use Rattle.std.specs.Option.{option_map}
+use Rattle.tm_base.specs.declared.refused.LineFault.{LineFault}
+use Rattle.tm_base.specs.declared.refused.LineFault.TheVariants.{Refused, Fault, Memory}
+use Rattle.tm_base.specs.declared.refused.Side.{Side as Named}
+use Rattle.tm_base.specs.declared.refused.Side.TheVariants as named
+use Rattle.tm_reply.specs.declared.row.ReplyRow.{ReplyRow}
+use Rattle.tm_tree.specs.Refusing.{Tests, first_refused}
+use Rattle.tm_tree.specs.States.{StoreState}
+use Rattle.tm_volume.specs.Reads.{IsBlank}
+use Rattle.tm_volume.specs.Seen.{Seen as VolumeSeen, IsKept, IsReady, StandsOn, stored_on}
+use Rattle.tm_world.specs.Disk.{Disk}
+use Rattle.tm_world.specs.Log.{Log, now, Passes}
+use Rattle.tm_world.specs.Outside.{Outside, disk, AreApart}
+use Rattle.tm_world.specs.declared.world.Part.{Part}
+use Rattle.tm_world.specs.declared.world.Part.TheVariants as part
+use Rattle.tm_world.specs.declared.world.Side.{Side}
+use Rattle.tm_world.specs.declared.world.Side.TheVariants.{Volume as VolumeSide, Store as StoreSide}
+use Rattle.tm_machine.specs.Commits.{unless_refused}
+use Rattle.tm_machine.specs.States.{State, Stored, kept}
+use Rattle.tm_machine.specs.Stops.{LeavesCommits, LeavesPair}
+
+-- the blocks of the volume's image, the volume and the store, each formatted or not, and the moment that was set last
+pub record Seen : Type 0 where
+  pub volume_blocks : ℕ
+  pub volume : Option VolumeSeen
+  pub store : Option StoreState
+  pub moment : Option ℕ
+
+-- the state of the plain machine, for a session whose data are on these disks
+abbrev pub state_on : Seen → Outside → State
+state_on m outside = record {
+  volume_blocks = m.volume_blocks;
+  volume = option_map (λ v. stored_on v (disk VolumeSide outside).bytes) m.volume;
+  store = m.store;
+  moment = m.moment;
+}
+
+-- the volume stands on the disk, which is unformatted where there is none
+abbrev pub VolumeStands : Option VolumeSeen → Disk → Type 0
+VolumeStands None disk = IsBlank disk
+VolumeStands (Some v) disk = StandsOn v disk
+
+-- the sides are apart, and what the session has stands on its disk
+pub record Standing (m : Seen) (outside : Outside) : Type 0 where
+  pub apart : AreApart outside
+  pub volume_side : VolumeStands m.volume (disk VolumeSide outside)
+
+-- the sides are apart, and nothing of them is unsynced
+pub record IsSynced (outside : Outside) : Type 0 where
+  pub apart : AreApart outside
+  pub volume_stable : (b : ℕ) → (disk VolumeSide outside).loose b ≡ false
+  pub store_stable : (b : ℕ) → (disk StoreSide outside).loose b ≡ false
+
+-- the side of the volume has so many blocks, and the volume is sound and may be changed
+pub record IsOpen (m : Seen) (blocks : Side → ℕ) : Type 0 where
+  pub count : blocks VolumeSide ≡ m.volume_blocks
+  pub small : m.volume_blocks ≤ 262144
+  pub sound : IfSome m.volume IsKept
+  pub ready : IfSome m.volume (λ v. IsReady v m.volume_blocks)
+
+-- whatever pair a stop leaves of the disks on which a session stands reads as what is kept of it
+abbrev pub SessionLeaves : Type 0
+SessionLeaves = (m : Seen) (blocks : Side → ℕ) (o : Outside) → IsOpen m blocks → Standing m o → LeavesPair (kept (state_on m o)) o
+
+-- the same volume, but for its count of looks, on as many blocks
+abbrev pub unlooked : Option VolumeSeen → Option VolumeSeen
+unlooked None = None
+unlooked (Some v) = Some (record v { looks = 0 })
+
+pub record Alike (m new : Seen) : Type 0 where
+  pub blocks_same : new.volume_blocks ≡ m.volume_blocks
+  pub volume_same : unlooked new.volume ≡ unlooked m.volume
+  pub store_same : new.store ≡ m.store
+  pub moment_same : new.moment ≡ m.moment
+
+-- the part whose count of faults rises where this side fails
+abbrev pub part_of : Named → Part
+part_of named.Volume = part.Volume
+part_of named.Store = part.Store
+
+-- ---- what a line does
+
+-- a fact that holds where a line was done or refused
+abbrev pub IfReplied : {A : Type 0} → Result A LineFault → Type 0 → Type 0
+IfReplied (Ok found) fact = fact
+IfReplied (Err (Refused why)) fact = fact
+IfReplied (Err (Fault side)) fact = Unit {0}
+IfReplied (Err Memory) fact = Unit {0}
+
+-- done exactly where no test refuses it, with these data lines and this state after it; refused without a change where one does
+abbrev pub Replies : Tests → List ReplyRow → State → State → State → Result (List ReplyRow) LineFault → Type 0
+Replies tested data_lines after old new (Ok found) = (first_refused tested ≡ None) × (found ≡ data_lines) × (new ≡ after)
+Replies tested data_lines after old new (Err (Refused why)) = (first_refused tested ≡ Some why) × (new ≡ old)
+Replies tested data_lines after old new (Err (Fault side)) = Unit {0}
+Replies tested data_lines after old new (Err Memory) = Unit {0}
+
+-- a line with these tests, data lines, state after it and commits was done, or refused, or cut short: it replies, what the
+-- session has stands on the disks, and at each moment a stop leaves a prefix of the commits
+pub record Does (tested : Tests) (data_lines : List ReplyRow) (after : State) (commits : List Stored) (m new : Seen) (start end : Log) (result : Result (List ReplyRow) LineFault) : Type 0 where
+  pub replies : Replies tested data_lines after (state_on m (now start)) (state_on new (now end)) result
+  pub standing : IfReplied result (Standing new (now end))
+  pub moments : Passes start end (LeavesCommits (kept (state_on m (now start))) (unless_refused (first_refused tested) commits) (now start).said)

@@ -1,0 +1,95 @@
+//! The lines that format an image.
+ghost use Rattle.std.specs.Prelude.{◌≡◌, ◌==◌, ◌≤◌, [], ◌∷◌, Err, Some, ℕ, unwrap_or};
+ghost use Rattle.std.specs.List.{list_any};
+ghost use Rattle.tm_base.specs.declared.refused.Side.{Side as Named};
+ghost use Rattle.tm_tree.specs.States.{new_store};
+ghost use Rattle.tm_volume.specs.Stored.{new_stored};
+ghost use Rattle.tm_world.specs.Faults.{NeverLess, Rose};
+ghost use Rattle.tm_world.specs.Log.{now};
+ghost use Rattle.tm_machine.specs.Answers.{AnswersBy};
+ghost use Rattle.tm_machine.specs.Session.{Does, IfReplied, IsOpen, Standing, part_of, state_on};
+ghost use Rattle.tm_machine.specs.States.{kept};
+ghost use Rattle.tm_machine.specs.Steps.{is_taken, new_store_tests, new_volume_tests};
+
+use crate::session::Session;
+use tm_base::{LineFault, Name, Refused};
+use tm_plain::{Snapshot, Store};
+use tm_reply::ReplyRows;
+use tm_volume::Volume;
+use tm_volume::laws::blank_is_left;
+use tm_world::World;
+
+/// The fewest blocks of an image that can be formatted.
+const LEAST_BLOCKS: u32 = 8;
+
+impl Session {
+    /// `newvolume`.
+    pub(crate) fn new_volume<W: World>(
+        &mut self,
+        world: &mut W,
+        name: &Name,
+        id: u128,
+        events: u32,
+    ) -> Result<ReplyRows, LineFault>
+        requires events { (1 ≤ events) × (events ≤ 65536) }
+        requires open { IsOpen self.old (W.blocks world.old) }
+        requires standing { W.told → Standing self.old (now (W.log world.old)) }
+        ensures does { W.told → let s = state_on self.old (now (W.log world.old)) in
+            let after = record s { volume = Some (new_stored name.now id events (unwrap_or s.moment 0)) } in
+            Does (new_volume_tests s id) [] after (kept after ∷ []) self.old self.new (W.log world.old) (W.log world.new) result }
+        ensures open { IfReplied result (IsOpen self.new (W.blocks world.new)) }
+        ensures blocks { W.blocks world.new ≡ W.blocks world.old }
+        ensures never_less { NeverLess (W.faults world.old) (W.faults world.new) }
+        ensures fault { (side : Named) → result ≡ Err (LineFault.Fault side) → Rose (W.faults world.old (part_of side)) (W.faults world.new (part_of side)) }
+    {
+        blank_is_left();
+        if self.volume.is_some() {
+            return Err(LineFault::Refused(Refused::Already));
+        }
+        if self.volume_blocks < LEAST_BLOCKS {
+            return Err(LineFault::Refused(Refused::Small));
+        }
+        let Some(moment) = self.moment else {
+            return Err(LineFault::Refused(Refused::NoMoment));
+        };
+        if self.is_taken(id) {
+            return Err(LineFault::Refused(Refused::IdTaken));
+        }
+        let blocks = self.volume_blocks;
+        let volume = match Volume::blank(self.alloc, world, blocks, name, id, events, moment) {
+            Ok(volume) => volume,
+            Err(why) => return Err(why),
+        };
+        // The rules that it keeps come with what it says of itself.
+        let _ = volume.info();
+        self.volume = Some(volume);
+        Ok(ReplyRows::new(self.alloc))
+    }
+
+    /// `newstore`.
+    pub(crate) fn new_store(&mut self, machine: &Name) -> Result<ReplyRows, LineFault>
+        ensures { AnswersBy (new_store_tests self.old.store) [] (record self.old { store = Some (new_store machine.now) }) self.old self.new result }
+    {
+        if self.store.is_some() {
+            return Err(LineFault::Refused(Refused::Already));
+        }
+        self.store = Some(Store::new(self.alloc, machine)?);
+        Ok(ReplyRows::new(self.alloc))
+    }
+
+    // Whether a snapshot of the store has this volume id.
+    fn is_taken(&self, id: u128) -> bool
+        ensures { result ≡ is_taken self.now.store id }
+    {
+        match &self.store {
+            Some(store) => has_id(store.snapshots(), id),
+            None => false,
+        }
+    }
+}
+
+fn has_id(snapshots: &[Snapshot], id: u128) -> bool
+    ensures { result ≡ list_any (λ s. s.id == id) snapshots.now }
+{
+    snapshots.iter().any(|snapshot| snapshot.id() == id)
+}

@@ -1,0 +1,27 @@
+//! What the definitions of commits say together.
+//!
+//! Each function is empty; its contract is a law.
+ghost use Rattle.tm_machine.specs.Commits.{LastOfLine, LastOfLines, LastOfOpening, RepliesAreSome};
+ghost use Rattle.tm_machine.specs.Session.{SessionLeaves};
+
+use tm_volume::laws::{blank_is_left, standing_volume_is_left};
+
+/// The last commit is what is kept of the state after it: of a line, of lines, and of opening.
+pub fn commits_end()
+    ensures line { LastOfLine }
+    ensures lines { LastOfLines }
+    ensures opening { LastOfOpening }
+{}
+
+/// Each line has a reply of one byte or more.
+pub fn replies_are_some()
+    ensures { RepliesAreSome }
+{}
+
+/// Whatever pair of images a stop leaves between two lines reads as what is kept of the session.
+pub fn session_is_left()
+    ensures { SessionLeaves }
+{
+    standing_volume_is_left();
+    blank_is_left();
+}

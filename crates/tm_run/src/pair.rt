@@ -1,0 +1,73 @@
+//! The pair of images, attached and synced.
+ghost use Rattle.std.specs.Prelude.{◌≡◌, ◌≢◌, ◌≤◌, ◌<◌, IfOk, OnOk, Err};
+ghost use Rattle.std.specs.Option.{ForSome};
+ghost use Rattle.tm_base.specs.declared.refused.Side.{Side as Named};
+ghost use Rattle.tm_machine.specs.Session.{IsSynced, part_of};
+ghost use Rattle.tm_world.specs.Disk.{Image};
+ghost use Rattle.tm_world.specs.Faults.{NeverLess, Rose};
+ghost use Rattle.tm_world.specs.Log.{now};
+ghost use Rattle.tm_world.specs.Torn.{as_read};
+ghost use Rattle.tm_world.specs.declared.world.Side.TheVariants.{Volume as VolumeSide};
+ghost use Rattle.tm_run.specs.Pairs.{IsPair, found};
+
+use crate::command::Command;
+use tm_base::Side;
+use tm_world::{Failed, Part, Side as ImageSide, World};
+
+// Attaches both sides, the volume first. How many blocks each has, or which side failed.
+fn attach_pair<W: World>(world: &mut W, command: Command<'_>) -> Result<(u32, u32), Side>
+    requires create { ForSome command.create (λ n. (1 ≤ n) × (n ≤ 262144)) }
+    requires differ { command.volume.now ≢ command.store.now }
+    ensures pair { W.told → OnOk result (IsPair (as_read (found command.entry.volume.now command.entry.create (now (W.log world.old))))
+        (as_read (found command.entry.store.now command.entry.create (now (W.log world.old)))) (now (W.log world.new))) }
+    ensures said { W.told → (now (W.log world.new)).said ≡ (now (W.log world.old)).said }
+    ensures count { IfOk result (λ n. (W.blocks world.new VolumeSide ≡ n.0) × (n.0 ≤ 262144)) }
+    ensures never_less { NeverLess (W.faults world.old) (W.faults world.new) }
+    ensures fault { (side : Named) → result ≡ Err side → Rose (W.faults world.old (part_of side)) (W.faults world.new (part_of side)) }
+{
+    let volume = match world.attach(Part::Volume, command.volume, command.create) {
+        Ok(blocks) => blocks,
+        Err(Failed) => return Err(Side::Volume),
+    };
+    let store = match world.attach(Part::Store, command.store, command.create) {
+        Ok(blocks) => blocks,
+        Err(Failed) => return Err(Side::Store),
+    };
+    Ok((volume, store))
+}
+
+// Makes all that stands on both sides stable, or tells which side failed.
+fn sync_pair<W: World>(world: &mut W) -> Result<(), Side>
+    ensures pair { W.told → (v z : Image) → IsPair v z (now (W.log world.old)) → OnOk result (IsPair v z (now (W.log world.new)) × IsSynced (now (W.log world.new))) }
+    ensures said { W.told → (now (W.log world.new)).said ≡ (now (W.log world.old)).said }
+    ensures blocks { W.blocks world.new ≡ W.blocks world.old }
+    ensures never_less { NeverLess (W.faults world.old) (W.faults world.new) }
+    ensures fault { (side : Named) → result ≡ Err side → Rose (W.faults world.old (part_of side)) (W.faults world.new (part_of side)) }
+{
+    match world.sync(ImageSide::Volume) {
+        Ok(()) => {}
+        Err(Failed) => return Err(Side::Volume),
+    }
+    match world.sync(ImageSide::Store) {
+        Ok(()) => Ok(()),
+        Err(Failed) => Err(Side::Store),
+    }
+}
+
+/// Attaches both sides, the volume first, and makes all that stands there stable. How many blocks
+/// each has, or which side failed.
+pub(crate) fn open_pair<W: World>(world: &mut W, command: Command<'_>) -> Result<(u32, u32), Side>
+    requires create { ForSome command.create (λ n. (1 ≤ n) × (n ≤ 262144)) }
+    requires differ { command.volume.now ≢ command.store.now }
+    ensures pair { W.told → OnOk result (IsPair (as_read (found command.entry.volume.now command.entry.create (now (W.log world.old))))
+        (as_read (found command.entry.store.now command.entry.create (now (W.log world.old)))) (now (W.log world.new))) }
+    ensures synced { W.told → OnOk result (IsSynced (now (W.log world.new))) }
+    ensures said { W.told → (now (W.log world.new)).said ≡ (now (W.log world.old)).said }
+    ensures count { IfOk result (λ n. (W.blocks world.new VolumeSide ≡ n.0) × (n.0 ≤ 262144)) }
+    ensures never_less { NeverLess (W.faults world.old) (W.faults world.new) }
+    ensures fault { (side : Named) → result ≡ Err side → Rose (W.faults world.old (part_of side)) (W.faults world.new (part_of side)) }
+{
+    let blocks = attach_pair(world, command)?;
+    sync_pair(world)?;
+    Ok(blocks)
+}
