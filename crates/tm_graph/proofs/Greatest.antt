@@ -21,7 +21,7 @@ greatest-cons row next g =
     let same : length (next ∷ g) - 1 ≡ length g = omega arith in
     ap (λ k. key_of (slice_get (row ∷ next ∷ g) k)) more ∙ sym (ap (λ k. key_of (slice_get (next ∷ g) k)) same)
 
-all_to_greatest : (g : Nodes) → Sorted g → AllByRecursion (λ k. k ≤ greatest g) (keys_of g)
+pub all_to_greatest : (g : Nodes) → Sorted g → AllByRecursion (λ k. k ≤ greatest g) (keys_of g)
 unfolding IsStrictlySortedBy
 all_to_greatest [] s = tt
 all_to_greatest (row ∷ []) s = (omega arith, tt)

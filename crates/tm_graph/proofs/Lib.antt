@@ -13,3 +13,5 @@ pub mod PlaceOrder
 pub mod WaysFound
 pub mod Climbs
 pub mod OneGone
+pub mod Joining
+pub mod Growing

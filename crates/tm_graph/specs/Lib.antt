@@ -5,3 +5,4 @@ pub mod Walks
 pub mod Trees
 pub mod Ways
 pub mod Reached
+pub mod Growing

@@ -7,6 +7,8 @@ use Rattle.std.specs.Map.{lookup, keys_of, values_of, set_value}
 use Rattle.std.specs.BTreeMap.{is_at, insert_entry}
 use Rattle.tm_base.specs.Paths.{name_cmp}
 use Rattle.tm_tree.specs.declared.node.Child.{Child}
+use Rattle.tm_tree.specs.declared.node.LeafRow.{LeafRow}
+use Rattle.tm_tree.specs.declared.node.LeafRow.TheVariants.{File, Link}
 use Rattle.tm_tree.specs.declared.node.NodeBody.{NodeBody}
 use Rattle.tm_tree.specs.declared.node.NodeBody.TheVariants.{Folder, Leaf}
 use Rattle.tm_tree.specs.declared.node.NodeRow.{NodeRow}
@@ -44,6 +46,24 @@ refilled (Leaf leaf) entries = Leaf leaf
 -- a folder with these entries in place of its own
 abbrev pub with_entries : NodeRow → List Child → NodeRow
 with_entries row entries = record row { body = refilled row.body entries }
+
+-- ---- bytes
+
+abbrev pub leaf_bytes : LeafRow → ℕ
+leaf_bytes (File attrs stamp length) = length
+leaf_bytes (Link attrs stamp target) = 0
+
+abbrev pub body_bytes : NodeBody → ℕ
+body_bytes (Folder attrs entries) = 0
+body_bytes (Leaf leaf) = leaf_bytes leaf
+
+-- the bytes of a file's node; none of a folder's or link's
+abbrev pub bytes_of : NodeRow → ℕ
+bytes_of row = body_bytes row.body
+
+-- the bytes of all files, each counted once
+abbrev pub stored_in : Nodes → ℕ
+stored_in g = sum_by bytes_of (values_of g)
 
 -- ---- links
 

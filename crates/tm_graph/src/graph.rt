@@ -1,14 +1,17 @@
 //! The graph of the nodes.
 ghost use Rattle.std.specs.Prelude.{◌≡◌, ◌↔◌, ℕ, ◌<◌, ◌+◌, ◌-◌, ◌≤◌, ◌^◌, IfOk, OnOk, OnErr, IsTrue, IfNone, IfSome, is_some, length, true, None, Some, []};
 ghost use Rattle.std.specs.Option.{option_copied, option_map};
-ghost use Rattle.tm_graph.specs.Nodes.{IsGraph, MayHold, added, greatest, linked, links_of, node, root_links};
+ghost use Rattle.tm_graph.specs.Nodes.{IsGraph, MayHold, added, greatest, linked, links_of, node, root_links, stored_in};
 ghost use Rattle.tm_graph.specs.Losing.{IsGone, left};
+ghost use Rattle.tm_graph.specs.Growing.{MayGrow, grown};
 
 use crate::built::{Gone, NodeRows};
 use crate::gains::{add_folder_to, gain, put};
+use crate::grow::grow;
 use crate::holds::may_hold;
 use crate::losses::{apply, collect};
 use crate::roots::{links_of, named};
+use crate::row::bytes_of;
 use std::alloc::{AllocError, Global};
 use std::collections::BTreeMap;
 use std::marker::Model;
@@ -74,6 +77,18 @@ impl Graph {
         ensures { IsTrue result ↔ (length self.now ≡ 0) }
     {
         self.nodes.len() == 0
+    }
+
+    /// The bytes of all files, each counted once. It takes no memory.
+    pub fn stored_bytes(&self) -> u64
+        requires { stored_in self.now < 2 ^ 64 }
+        ensures { result ≡ stored_in self.now }
+    {
+        let mut stored = 0;
+        for row in self.nodes.values() {
+            stored += bytes_of(row);
+        }
+        stored
     }
 
     /// The node of a number; none exactly where there is none. It takes no memory.
@@ -170,6 +185,17 @@ impl Graph {
         ensures root { root_links self.new number ≡ root_links self.old number + 1 }
     {
         gain(&mut self.nodes, number.0);
+    }
+
+    /// Adds nodes that are numbered one by one after the greatest, and a root link of one of all; each
+    /// node has a link more for each new entry that names it. Where memory is refused, the graph stays
+    /// as it was.
+    pub fn grow(&mut self, new: NodeRows, root: NodeId) -> Result<(), AllocError>
+        requires { MayGrow self.old new root }
+        ensures ok { OnOk result (self.new ≡ grown self.old new root) }
+        ensures err { OnErr result (self.new ≡ self.old) }
+    {
+        grow(self.alloc, &mut self.nodes, new.into_list(), root.0)
     }
 
     /// A root link fewer of a node. The nodes that then have no links go, downwards, and are given;

@@ -5,6 +5,7 @@
 mod built;
 mod gains;
 mod graph;
+mod grow;
 mod holds;
 mod laws;
 mod losses;

@@ -1,8 +1,8 @@
 //! A node without its number.
 ghost use Rattle.std.specs.Prelude.{◌≡◌, ◌<◌, ◌+◌, ◌-◌, ◌≤◌, ◌^◌};
-ghost use Rattle.tm_graph.specs.Nodes.{entries_of, is_folder, with_links, with_entries};
+ghost use Rattle.tm_graph.specs.Nodes.{bytes_of, entries_of, is_folder, with_links, with_entries};
 
-use tm_tree::{Child, Entries, NodeBody, NodeRow};
+use tm_tree::{Child, Entries, LeafRow, NodeBody, NodeRow};
 
 /// The entries of a folder's node, by rising name; none of a file or link. It takes no memory.
 pub fn children_of(row: &NodeRow) -> &[Child]
@@ -23,12 +23,30 @@ pub fn is_folder(row: &NodeRow) -> bool
     }
 }
 
+/// The bytes of a file, 0 of others.
+pub fn bytes_of(row: &NodeRow) -> u64
+    ensures { result ≡ bytes_of row.now }
+{
+    match &row.body {
+        NodeBody::Leaf(LeafRow::File { length, .. }) => *length,
+        _ => 0,
+    }
+}
+
 /// One link more.
 pub fn gain_link(row: &mut NodeRow)
     requires { row.old.links < 2 ^ 62 }
     ensures { row.new ≡ with_links row.old (row.old.links + 1) }
 {
     row.links += 1;
+}
+
+/// So many links more.
+pub fn gain_links(row: &mut NodeRow, count: u64)
+    requires { row.old.links + count ≤ 2 ^ 62 }
+    ensures { row.new ≡ with_links row.old (row.old.links + count) }
+{
+    row.links += count;
 }
 
 /// So many links fewer.

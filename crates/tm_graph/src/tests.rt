@@ -155,3 +155,18 @@ fn a_graph_is_made_of_its_nodes(rt: HostRuntime) -> Result<(), Fail> {
     assert!(rt; graph.greatest() == 1 && graph.root_links(NodeId(1)) == 0);
     Ok(())
 }
+
+// A file comes to an empty graph as its root.
+#[test]
+fn a_graph_grows(rt: HostRuntime) -> Result<(), Fail> {
+    let alloc = rt.alloc();
+    let mut graph = Graph::new(alloc);
+    assert_eq!(rt; graph.stored_bytes(), 0);
+    let row = NodeRow {
+        label: 1,
+        links: 0,
+        body: NodeBody::Leaf(file(alloc, 5)?),
+    };
+    graph.grow(NodeRows::of(vec![in alloc; (NodeId(1), row)]?), NodeId(1))?;
+    has_links(&rt, &graph, &[(1, 1, 1)])
+}
