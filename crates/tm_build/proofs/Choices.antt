@@ -16,7 +16,7 @@ use Rattle.tm_tree.specs.declared.node.LeafRow.TheVariants.{File, Link}
 use Rattle.tm_tree.specs.declared.node.NodeBody.{NodeBody}
 use Rattle.tm_tree.specs.declared.node.NodeBody.TheVariants.{Folder, Leaf}
 use Rattle.tm_tree.specs.declared.node.NodeRow.{NodeRow}
-use Rattle.tm_tree.specs.Items.{is_folder, stamp_of}
+use Rattle.tm_tree.specs.Items.{is_folder}
 use Rattle.tm_tree.specs.Trees.{Tree, item_at, is_some_folder, folder_at, IsTree}
 use Rattle.tm_tree.specs.Copies.{bare, is_same_at}
 use Rattle.tm_tree.proofs.SameItems.{both, onto, same_attrs_decides}
@@ -26,6 +26,7 @@ use Rattle.tm_graph.specs.Trees.{child_of}
 use Rattle.tm_graph.specs.Walks.{child_named}
 use Rattle.tm_graph.proofs.WaysFound.{child_there, named_there}
 use Rattle.tm_build.specs.Reading.{item_of}
+use Rattle.tm_build.specs.Stamps.{alike}
 use Rattle.tm_build.specs.Keeping.{same_child, same_entries, is_file_of, is_link_of, is_folder_of, passes, kept, kept_leaf, kept_folder}
 use Rattle.tm_build.specs.Building.{Backup, prev, base_at, first, all, IsSound, AreNew, Builds, AreBuilt, AreNamed}
 use Rattle.tm_build.proofs.Ways.{some_is, not_both, number_here}
@@ -67,26 +68,21 @@ is_false false f = refl
 -- a test that tells a file or link by its kind and stamp
 record Tells (test : NodeBody → Bool) (e : Item) : Type 0 where
   alone : (body : NodeBody) → test body ≡ true → body_entries body ≡ []
-  stamp : ℕ
-  its : stamp_of e ≡ Some stamp
-  stamped : (bytes : List ℕ) (body : NodeBody) → test body ≡ true → stamp_of (item_of bytes body) ≡ Some stamp
+  tells : (bytes : List ℕ) (body : NodeBody) → test body ≡ true → alike (item_of bytes body) e ≡ true
   itself : (bytes : List ℕ) (body : NodeBody) → item_of bytes body ≡ e → test body ≡ true
   leaf : is_folder e ≡ false
 
-same_stamp : (a b : ℕ) → (a == b) ≡ true → a ≡ b
-same_stamp a b h = (unsigned_Decides a b).0 h
-
 file_tells : (attrs : Attrs) (stamp : ℕ) (bytes : List ℕ) → Tells (is_file_of stamp) (item.File attrs stamp bytes)
-file_tells attrs stamp bytes = record { alone = alone; stamp = stamp; its = refl; stamped = stamped; itself = itself; leaf = refl }
+file_tells attrs stamp bytes = record { alone = alone; tells = tells; itself = itself; leaf = refl }
   where
     alone : (body : NodeBody) → is_file_of stamp body ≡ true → body_entries body ≡ []
     alone (Folder a es) t = absurd (cc t)
     alone (Leaf leaf) t = refl
 
-    stamped : (x : List ℕ) (body : NodeBody) → is_file_of stamp body ≡ true → stamp_of (item_of x body) ≡ Some stamp
-    stamped x (Folder a es) t = absurd (cc t)
-    stamped x (Leaf (File a s n)) t = ap Some (same_stamp s stamp t)
-    stamped x (Leaf (Link a s y)) t = absurd (cc t)
+    tells : (x : List ℕ) (body : NodeBody) → is_file_of stamp body ≡ true → alike (item_of x body) (item.File attrs stamp bytes) ≡ true
+    tells x (Folder a es) t = absurd (cc t)
+    tells x (Leaf (File a s n)) t = t
+    tells x (Leaf (Link a s y)) t = absurd (cc t)
 
     itself : (x : List ℕ) (body : NodeBody) → item_of x body ≡ item.File attrs stamp bytes → is_file_of stamp body ≡ true
     itself x (Folder a es) t = absurd (cc t)
@@ -94,16 +90,16 @@ file_tells attrs stamp bytes = record { alone = alone; stamp = stamp; its = refl
     itself x (Leaf (Link a s y)) t = absurd (cc t)
 
 link_tells : (attrs : Attrs) (stamp : ℕ) (target : List ℕ) → Tells (is_link_of stamp) (item.Link attrs stamp target)
-link_tells attrs stamp target = record { alone = alone; stamp = stamp; its = refl; stamped = stamped; itself = itself; leaf = refl }
+link_tells attrs stamp target = record { alone = alone; tells = tells; itself = itself; leaf = refl }
   where
     alone : (body : NodeBody) → is_link_of stamp body ≡ true → body_entries body ≡ []
     alone (Folder a es) t = absurd (cc t)
     alone (Leaf leaf) t = refl
 
-    stamped : (x : List ℕ) (body : NodeBody) → is_link_of stamp body ≡ true → stamp_of (item_of x body) ≡ Some stamp
-    stamped x (Folder a es) t = absurd (cc t)
-    stamped x (Leaf (File a s n)) t = absurd (cc t)
-    stamped x (Leaf (Link a s y)) t = ap Some (same_stamp s stamp t)
+    tells : (x : List ℕ) (body : NodeBody) → is_link_of stamp body ≡ true → alike (item_of x body) (item.Link attrs stamp target) ≡ true
+    tells x (Folder a es) t = absurd (cc t)
+    tells x (Leaf (File a s n)) t = absurd (cc t)
+    tells x (Leaf (Link a s y)) t = t
 
     itself : (x : List ℕ) (body : NodeBody) → item_of x body ≡ item.Link attrs stamp target → is_link_of stamp body ≡ true
     itself x (Folder a es) t = absurd (cc t)
@@ -122,19 +118,26 @@ module _ (b : Backup) (sound : IsSound b) (p : Names) (e : Item) (stood : item_a
     passing_same : (n : ℕ) → Kept test b.graph (base_at b p) n → is_same_at (prev b) b.now p ≡ true
     passing_same n k =
         let was : item_at (bare (prev b)) p ≡ Some (item_of (b.files n) k.row.body) = base_item b sound p n k.row k.is k.there in
-        let same : item_of (b.files n) k.row.body ≡ e = sound.stamps p p _ e tells.stamp was stood (tells.stamped (b.files n) k.row.body k.passes) tells.its in
+        let same : item_of (b.files n) k.row.body ≡ e = sound.stamps p _ e was stood (tells.tells (b.files n) k.row.body k.passes) in
         same_from b sound p (was ∙ ap Some same ∙ sym stood) (λ x. same_none b sound (p ++ x ∷ [])
         (base_child b sound p n k.row x k.is k.there ∙ ap (λ es. child_named es x) (tells.alone k.row.body k.passes))
         (nothing_in b.now p e x sound.tree stood tells.leaf))
 
-    -- where all is as it was, the base's node passes
-    same_passing : is_same_at (prev b) b.now p ≡ true → (n : ℕ) × (kept test b.graph (base_at b p) ≡ Some n)
-    same_passing same =
-        let old = base_node b sound p e (same_item b sound p same ∙ stood) in
+    -- where the base has the item, its node passes
+    had_passing : item_at (bare (prev b)) p ≡ Some e → (n : ℕ) × (kept test b.graph (base_at b p) ≡ Some n)
+    had_passing had =
+        let old = base_node b sound p e had in
         (old.0, keeps test b.graph (base_at b p) old.0 old.1 old.2 old.3 (tells.itself (b.files old.0) old.1.body old.4))
+
+    -- and so where all is as it was
+    same_passing : is_same_at (prev b) b.now p ≡ true → (n : ℕ) × (kept test b.graph (base_at b p) ≡ Some n)
+    same_passing same = had_passing (same_item b sound p same ∙ stood)
 
     told_same : (n : ℕ) → kept test b.graph (base_at b p) ≡ Some n → (base_at b p ≡ Some n) × (is_same_at (prev b) b.now p ≡ true)
     told_same n h = let k = kept_is test b.graph (base_at b p) n h in (k.is, passing_same n k)
+
+    had_same : item_at (bare (prev b)) p ≡ Some e → is_same_at (prev b) b.now p ≡ true
+    had_same had = let n = had_passing had in (told_same n.0 n.1).1
 
     told_other : kept test b.graph (base_at b p) ≡ None → is_same_at (prev b) b.now p ≡ false
     told_other h = is_false (is_same_at (prev b) b.now p) (λ same. let s = same_passing same in cc (s.1, h))
@@ -148,6 +151,12 @@ pub leaf_other : (b : Backup) → IsSound b → (p : Names) (e : Item) → item_
 leaf_other b sound p (item.Folder a) stood leaf h = absurd (cc leaf)
 leaf_other b sound p (item.File a s x) stood leaf h = told_other b sound p (item.File a s x) stood (is_file_of s) (file_tells a s x) h
 leaf_other b sound p (item.Link a s x) stood leaf h = told_other b sound p (item.Link a s x) stood (is_link_of s) (link_tells a s x) h
+
+-- a file or link that the base has is as it was
+pub leaf_had : (b : Backup) → IsSound b → (p : Names) (e : Item) → item_at b.now p ≡ Some e → is_folder e ≡ false → item_at (bare (prev b)) p ≡ Some e → is_same_at (prev b) b.now p ≡ true
+leaf_had b sound p (item.Folder a) stood leaf had = absurd (cc leaf)
+leaf_had b sound p (item.File a s x) stood leaf had = had_same b sound p (item.File a s x) stood (is_file_of s) (file_tells a s x) had
+leaf_had b sound p (item.Link a s x) stood leaf had = had_same b sound p (item.Link a s x) stood (is_link_of s) (link_tells a s x) had
 
 -- ---- folders
 

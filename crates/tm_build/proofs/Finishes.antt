@@ -26,7 +26,7 @@ use Rattle.tm_tree.specs.declared.node.Child.{Child}
 use Rattle.tm_build.specs.Reading.{item_of, labelled}
 use Rattle.tm_build.specs.Copying.{with_label, tree_under, node_under}
 use Rattle.tm_build.specs.Building.{Backup, prev, base_at, first, next, all, all_files, IsSound, AreNew, IsMade, Builds, AreBuilt, AreNamed}
-use Rattle.tm_build.specs.Driving.{BaseGoesDown, NoneAreNew, LeafIsKept, LeafIsMade, EntryIsBuilt, FolderIsKept, FolderIsMade, is_folder_node, IsPlaced, BackupIsBuilt}
+use Rattle.tm_build.specs.Driving.{BaseGoesDown, NoneAreNew, LeafIsKept, LeafIsMade, EntryIsBuilt, FolderIsKept, FolderIsMade, LeafIsSame, is_folder_node, IsPlaced, BackupIsBuilt}
 use Rattle.tm_build.proofs.Ways.{some_is, number_here}
 use Rattle.tm_build.proofs.Rows.{rows_at, rows_in_order}
 use Rattle.tm_build.proofs.Copied.{Makes, rows_are_copy, rows_equal}
@@ -34,7 +34,7 @@ use Rattle.tm_build.proofs.Appended.{place_of, found_at, node_stays, new_is, new
 use Rattle.tm_build.proofs.Keeps.{graph_descends, base_there, base_item, base_append, same_item, kept_builds}
 use Rattle.tm_build.proofs.Among.{all_stay, built_push}
 use Rattle.tm_build.proofs.Makes.{IsRowFor, are_after, made_builds}
-use Rattle.tm_build.proofs.Choices.{nothing_in, leaf_same, leaf_other, folder_same, folder_other, folder_range}
+use Rattle.tm_build.proofs.Choices.{nothing_in, leaf_same, leaf_other, leaf_had, folder_same, folder_other, folder_range}
 use Rattle.tm_build.proofs.Naming.{no_rows}
 
 -- ---- the steps
@@ -66,6 +66,9 @@ leaf_is_kept b new fresh lo p e n sound low stood kept =
 leaf_alone : (bytes : List ℕ) (body : NodeBody) (e : Item) → item_of bytes body ≡ e → is_folder e ≡ false → body_entries body ≡ []
 leaf_alone bytes (Folder a es) e is leaf = absurd (cc (ap is_folder is, leaf))
 leaf_alone bytes (Leaf l) e is leaf = refl
+
+pub leaf_is_same : LeafIsSame
+leaf_is_same b p e sound stood leaf had = leaf_had b sound p e stood leaf had
 
 pub leaf_is_made : LeafIsMade
 leaf_is_made b new fresh p e row sound are stood leaf kept label is size =
@@ -170,14 +173,14 @@ module _ (b : Backup) (new : Nodes) (fresh : ℕ → List ℕ) (root : ℕ) (sou
 
   -- what stands at p is the base's node there or a new one
   abbrev Sort : Names → ℕ → Type 0
-  Sort p n = (base_at b p ≡ Some n) ⊎ ((e : Item) × (item_at b.now p ≡ Some e) × (first b ≤ n) × IsMade b new fresh n p e)
+  Sort p n = (base_at b p ≡ Some n) ⊎ ((e : Item) × (item_at b.now p ≡ Some e) × (first b ≤ n) × IsMade b new fresh n p e × (is_same_at (prev b) b.now p ≡ false))
 
   sort : (p : Names) (n : ℕ) → number_at h root p ≡ Some n → Sort p n
   sort p n at = by_item (item_at b.now p) refl
     where
       by_same : (e : Item) → item_at b.now p ≡ Some e → (t : Bool) → is_same_at (prev b) b.now p ≡ t → Sort p n
       by_same e is true same = inl (sym (built.shared p (ap is_some is) same) ∙ at)
-      by_same e is false other = let o = built.own p e is other in let here : o.0 ≡ n = cc (o.1, at) in inr (e, is, subst (λ k. first b ≤ k) here o.2, subst (λ k. IsMade b new fresh k p e) here o.3)
+      by_same e is false other = let o = built.own p e is other in let here : o.0 ≡ n = cc (o.1, at) in inr (e, is, subst (λ k. first b ≤ k) here o.2, subst (λ k. IsMade b new fresh k p e) here o.3, other)
 
       by_item : (o : Option Item) → item_at b.now p ≡ o → Sort p n
       by_item None none = let gone = built.absent p none in absurd (cc (gone, at))
@@ -208,12 +211,13 @@ module _ (b : Backup) (new : Nodes) (fresh : ℕ → List ℕ) (root : ℕ) (sou
     item : item_at b.now p ≡ Some (item_of (fresh n) row.body)
     size : node_length row ≡ length (bytes_of (item_of (fresh n) row.body))
     names : AreNamed b p (entries_of row)
+    changed : is_same_at (prev b) b.now p ≡ false
 
   there_as : (n : ℕ) (row : NodeRow) (p : Names) → number_at h root p ≡ Some n → node new n ≡ Some row → first b ≤ n → Is n row p
-  there_as n row p stands there from = ⊎_elim (λ old. absurd (omega (arith, from, old_below b n sound.graph (base_there b sound p n old)))) (λ made. as_made made.0 made.1 made.3) (sort p n stands)
+  there_as n row p stands there from = ⊎_elim (λ old. absurd (omega (arith, from, old_below b n sound.graph (base_there b sound p n old)))) (λ made. as_made made.0 made.1 made.3 made.4) (sort p n stands)
     where
-      as_made : (e : Item) → item_at b.now p ≡ Some e → IsMade b new fresh n p e → Is n row p
-      as_made e is made =
+      as_made : (e : Item) → item_at b.now p ≡ Some e → IsMade b new fresh n p e → is_same_at (prev b) b.now p ≡ false → Is n row p
+      as_made e is made other =
           let both : Some made.row ≡ Some row = sym made.there ∙ there in
           let one : made.row ≡ row = cc both in
           let read : item_of (fresh n) row.body ≡ e = ap (λ (r : NodeRow). item_of (fresh n) r.body) (sym one) ∙ made.item in
@@ -221,6 +225,7 @@ module _ (b : Backup) (new : Nodes) (fresh : ℕ → List ℕ) (root : ℕ) (sou
             item = is ∙ ap Some (sym read);
             size = ap node_length (sym one) ∙ made.size ∙ ap (λ x. length (bytes_of x)) (sym read);
             names = ap (λ (r : NodeRow). map (λ (c : Child). c.name) (entries_of r)) (sym one) ∙ made.names;
+            changed = other;
           }
 
   placed : (i : ℕ) (e : ℕ × NodeRow) → slice_get new i ≡ Some e → IsPlaced b new fresh root e
@@ -237,6 +242,7 @@ module _ (b : Backup) (new : Nodes) (fresh : ℕ → List ℕ) (root : ℕ) (sou
         item = m.item;
         size = m.size;
         names = m.names;
+        changed = m.changed;
       }
     where
       child : (q : ℕ) → (is_some (node b.graph q) ≡ true) ⊎ (first b ≤ q) → q < e.0 → e.0 < next b new → is_some (node h q) ≡ true

@@ -10,3 +10,4 @@ pub mod Makes
 pub mod Choices
 pub mod Finishes
 pub mod Making
+pub mod Telling

@@ -215,7 +215,7 @@ listed_rise t p h = rows_rise p (children t p) (filter_passes (λ (row : Names �
 
 -- ---- what the rows tell
 
-found_rows : (t : Tree) → InOrder t → All (λ row. item_at t row.0 ≡ Some row.1) t
+pub found_rows : (t : Tree) → InOrder t → All (λ row. item_at t row.0 ≡ Some row.1) t
 found_rows t h i d below =
     let row : Names × Item = get_or t i d in
     lookup-from_Contains (eq_by_cmp_equiv path_total) row.0 row.1 t (IsDistinct-from_sorted path_cmp (keys_of t) h) (i, below, get_or_default t i row d below)

@@ -38,7 +38,7 @@ beneath_whole f g p here each q on = by_rest (drop (length p) q) (prefix_is p q 
     by_rest [] e = subst (λ (x : Names). f x ≡ g x) (sym (e ∙ append-nil p)) here
     by_rest (n ∷ rest) e = each n q (is_prefix_of_append (p ++ n ∷ []) q rest (e ∙ sym (append_assoc p (n ∷ []) rest)))
 
-item_at-beneath : (t : Tree) (p q : Names) → item_at (beneath t p) q ≡ cond (is_prefix p q) (item_at t q) None
+pub item_at-beneath : (t : Tree) (p q : Names) → item_at (beneath t p) q ≡ cond (is_prefix p q) (item_at t q) None
 item_at-beneath t p q = lookup-filter-keys (is_at (path_cmp q)) (is_prefix p) (is_prefix p q) (λ k e. ap (is_prefix p) (sym ((at_is q k).0 e))) t
 
 -- ---- a tree without its labels

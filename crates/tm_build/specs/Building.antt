@@ -13,8 +13,8 @@ use Rattle.tm_graph.specs.Nodes.{Nodes, node, entries_of, times, greatest, IsGra
 use Rattle.tm_graph.specs.Trees.{number_at}
 use Rattle.tm_identity.specs.Stored.{node_length}
 use Rattle.tm_build.specs.Reading.{item_of, labelled}
-use Rattle.tm_fit.specs.Fit.{StampsAgree}
 use Rattle.tm_build.specs.Copying.{tree_under, node_under}
+use Rattle.tm_build.specs.Stamps.{StampsTell}
 
 -- the nodes of the store, the bytes of the files among them, the root of the base if there is one, the label of new nodes,
 -- and the tree that is to be kept
@@ -41,12 +41,12 @@ first b = greatest b.graph + 1
 abbrev pub all : Backup → Nodes → Nodes
 all b new = b.graph ++ new
 
--- the nodes are a graph with the base's root, the tree is one, and stamps tell what is as it was
+-- the nodes are a graph with the base's root, the tree is one, and stamps tell what is as it was, path by path
 pub record IsSound (b : Backup) : Type 0 where
   pub graph : IsGraph b.graph
   pub based : (r : ℕ) → b.base ≡ Some r → is_some (node b.graph r) ≡ true
   pub tree : IsTree b.now
-  pub stamps : StampsAgree (bare (prev b)) b.now
+  pub stamps : StampsTell (bare (prev b)) b.now
 
 -- ---- new nodes
 

@@ -11,7 +11,7 @@ use Rattle.tm_tree.specs.declared.node.NodeBody.TheVariants.{Folder}
 use Rattle.tm_tree.specs.declared.node.NodeRow.{NodeRow}
 use Rattle.tm_tree.specs.Items.{is_folder, bytes_of}
 use Rattle.tm_tree.specs.Trees.{item_at}
-use Rattle.tm_tree.specs.Copies.{copy}
+use Rattle.tm_tree.specs.Copies.{bare, copy, is_same_at}
 use Rattle.tm_graph.specs.Nodes.{Nodes, node, entries_of, times, greatest, is_folder as is_folder_row}
 use Rattle.tm_graph.specs.Trees.{and_then, child_of, number_at, rows_of}
 use Rattle.tm_identity.specs.Additions.{IsCopied}
@@ -48,6 +48,11 @@ LeafIsMade = (b : Backup) (new : Nodes) (fresh : ℕ → List ℕ) (p : Names) (
     → kept_leaf b.graph (base_at b p) e ≡ None → row.label ≡ b.label → item_of (fresh (next b new)) row.body ≡ e → node_length row ≡ length (bytes_of e)
     → AreNew b (new ++ (next b new, row) ∷ []) × Builds b (new ++ (next b new, row) ∷ []) fresh (next b new) (next b new + 1) p (next b new)
 
+-- a file or link that the base has at its path is as it was
+abbrev pub LeafIsSame : Type 0
+LeafIsSame = (b : Backup) (p : Names) (e : Item) → IsSound b → item_at b.now p ≡ Some e → is_folder e ≡ false → item_at (bare (prev b)) p ≡ Some e
+    → is_same_at (prev b) b.now p ≡ true
+
 -- ---- folders
 
 -- one entry more, made of what stands under its name with new nodes after the others
@@ -74,13 +79,14 @@ FolderIsMade = (b : Backup) (new : Nodes) (fresh : ℕ → List ℕ) (lo : ℕ) 
 abbrev pub is_folder_node : Option NodeRow → Bool
 is_folder_node found = unwrap_or (option_map is_folder_row found) false
 
--- a new node of a finished backup: it stands at one place, where it is what the tree has
+-- a new node of a finished backup: it stands at one place, where it is what the tree has, and not all is as it was
 pub record IsPlaced (b : Backup) (new : Nodes) (fresh : ℕ → List ℕ) (root : ℕ) (e : ℕ × NodeRow) : Type 0 where
   pub label : e.1.label ≡ b.label
   pub children : (q : ℕ) → 0 < times q (entries_of e.1) → (q < e.0) × (is_some (node (all b new) q) ≡ true)
   pub place : Names
   pub stands : number_at (all b new) root place ≡ Some e.0
   pub item : item_at b.now place ≡ Some (item_of (fresh e.0) e.1.body)
+  pub changed : is_same_at (prev b) b.now place ≡ false
   pub size : node_length e.1 ≡ length (bytes_of (item_of (fresh e.0) e.1.body))
   pub names : AreNamed b place (entries_of e.1)
 

@@ -1,6 +1,7 @@
 pub mod Sharing
 pub mod Copying
 pub mod Reading
+pub mod Stamps
 pub mod Keeping
 pub mod Building
 pub mod Listed

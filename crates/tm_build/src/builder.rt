@@ -1,5 +1,5 @@
 //! New nodes of a backup.
-ghost use Rattle.std.specs.Prelude.{None, ◌≡◌, ◌+◌, ◌++◌, ◌∷◌, [], ◌≤◌, ◌^◌, IfOk, OnOk, OnErr, length};
+ghost use Rattle.std.specs.Prelude.{None, ◌≡◌, ◌+◌, ◌++◌, ◌∷◌, [], ◌<◌, ◌≤◌, ◌^◌, IfOk, OnOk, OnErr, length};
 ghost use Rattle.tm_graph.specs.Nodes.{greatest, new_node};
 ghost use Rattle.tm_build.specs.Keeping.{kept_folder, kept_link};
 ghost use Rattle.tm_build.specs.Making.{Adds, IsMaking, begun, file_length, next_number, with_file, with_node};
@@ -124,7 +124,10 @@ impl Builder {
         ensures nodes { result.nodes ≡ self.nodes }
         ensures blobs { result.blobs ≡ self.blobs }
         ensures making { IsMaking self }
+        ensures fits { next_number self < 2 ^ 64 }
     {
+        // This shows that the numbers fit.
+        let _ = self.next();
         Built {
             root,
             nodes: NodeRows::of(self.nodes),
@@ -133,7 +136,8 @@ impl Builder {
     }
 
     fn next(&self) -> NodeId
-        ensures { result ≡ next_number self.now }
+        ensures number { result ≡ next_number self.now }
+        ensures fits { next_number self.now < 2 ^ 64 }
     {
         NodeId(self.first + self.nodes.len() as u64)
     }

@@ -1,8 +1,9 @@
 //! What the definitions say together.
 ghost use Rattle.tm_build.specs.Copying.{NodesAreCopy};
-ghost use Rattle.tm_build.specs.Driving.{BackupIsBuilt, BaseGoesDown, EntryIsBuilt, FolderIsKept, FolderIsMade, LeafIsKept, LeafIsMade, NoneAreNew};
+ghost use Rattle.tm_build.specs.Driving.{BackupIsBuilt, BaseGoesDown, EntryIsBuilt, FolderIsKept, FolderIsMade, LeafIsKept, LeafIsMade, LeafIsSame, NoneAreNew};
 ghost use Rattle.tm_build.specs.Listed.{ListsFolder, RowsStandIn};
 ghost use Rattle.tm_build.specs.Sharing.{SameByEntries};
+ghost use Rattle.tm_build.specs.Stamps.{AgreeingTell};
 
 /// All at and beneath a path is as it was exactly where the item there is, and all at and beneath
 /// each name in it.
@@ -45,6 +46,11 @@ pub fn leaf_is_made()
     ensures { LeafIsMade }
 {}
 
+/// A file or link that the base has at its path is as it was.
+pub fn leaf_is_same()
+    ensures { LeafIsSame }
+{}
+
 /// One entry more is built after the others.
 pub fn entry_is_built()
     ensures { EntryIsBuilt }
@@ -63,4 +69,9 @@ pub fn folder_is_made()
 /// What is built from the root down is the labelled copy of the tree over the base's.
 pub fn backup_is_built()
     ensures { BackupIsBuilt }
+{}
+
+/// Where items of the base and of the tree with one stamp are equal, stamps tell what is as it was.
+pub fn agreeing_tell()
+    ensures { AgreeingTell }
 {}

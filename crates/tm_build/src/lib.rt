@@ -9,8 +9,9 @@ mod laws;
 pub use builder::Builder;
 pub use keeping::{base_child, kept_file, kept_folder, kept_link};
 pub use laws::{
-    backup_is_built, base_goes_down, entry_is_built, folder_is_kept, folder_is_made, leaf_is_kept,
-    leaf_is_made, lists_folder, nodes_are_copy, none_are_new, rows_stand_in, same_by_entries,
+    agreeing_tell, backup_is_built, base_goes_down, entry_is_built, folder_is_kept, folder_is_made,
+    leaf_is_kept, leaf_is_made, leaf_is_same, lists_folder, nodes_are_copy, none_are_new,
+    rows_stand_in, same_by_entries,
 };
 
 #[cfg(test)]

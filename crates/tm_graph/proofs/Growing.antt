@@ -23,7 +23,7 @@ weaker : (n : ℕ) (ks : List ℕ) → AllByRecursion (λ k. k ≤ n) ks → All
 weaker n [] h = tt
 weaker n (k ∷ ks) h = (omega (arith, h.0), weaker n ks h.1)
 
-none_or_there : (o : Option NodeRow) → (o ≡ None) ⊎ (is_some o ≡ true)
+pub none_or_there : (o : Option NodeRow) → (o ≡ None) ⊎ (is_some o ≡ true)
 none_or_there None = inl refl
 none_or_there (Some row) = inr refl
 
@@ -52,8 +52,8 @@ module _ (g new : Nodes) (root : ℕ) (is : IsGraph g) (may : MayGrow g new root
   pub new_is : (q : ℕ) → node g q ≡ None → node all q ≡ node new q
   new_is q none = at_rest g new q none
 
-  named_all : (q : ℕ) → named (grown g new root) q ≡ named g q + named new q
-  named_all q = same_named (grown g new root) all q (same_entries (λ n row. links_of g n + gain new root n) all) ∙ named-joined g new q
+  pub named-grown : (q : ℕ) → named (grown g new root) q ≡ named g q + named new q
+  named-grown q = same_named (grown g new root) all q (same_entries (λ n row. links_of g n + gain new root n) all) ∙ named-joined g new q
 
   names_none : (m q : ℕ) → m ≤ q → names q (node all m) ≡ 0
   names_none m q h = ⊎_elim (λ none. ap (names q) (new_is m none) ∙ by_node (node new m) (λ row e. each_at (IsNewNode g new) new m row may.each e))
@@ -101,7 +101,7 @@ module _ (g new : Nodes) (root : ℕ) (is : IsGraph g) (may : MayGrow g new root
     in_order = grown_sorted;
     rises = λ m. subst EntriesRise (sym (node-grown m)) (rises_alike (relinked g new root m) (λ row. refl) (node all m) (rises_all m));
     falls = λ m q h. ap (names q) (node-grown m) ∙ same_names m q (node all m) ∙ names_none m q h;
-    counted = λ q. ⊎_elim (λ none. omega (arith, named_all q, not_named q none)) (λ t. omega (arith, named_all q, links-grown q t, is.counted q)) (none_or_there (node all q));
+    counted = λ q. ⊎_elim (λ none. omega (arith, named-grown q, not_named q none)) (λ t. omega (arith, named-grown q, links-grown q t, is.counted q)) (none_or_there (node all q));
     few = λ q. ⊎_elim (λ none. omega (arith, links-grown_none q none)) (λ t. omega (arith, links-grown q t, may.few q)) (none_or_there (node all q));
     low = λ q t. low_all q (there q (node all q) (subst (λ (o : Option NodeRow). is_some o ≡ true) (node-grown q) t));
   }

@@ -28,7 +28,7 @@ AreNumbered n new = (place : ℕ) (e : ℕ × NodeRow) → slice_get new place �
 less : (m n : ℕ) → m < n → nat_cmp m n ≡ Less
 less m n h = grind (arith, nat_tests)
 
-numbered_rest : (n : ℕ) (e : ℕ × NodeRow) (new : Nodes) → AreNumbered n (e ∷ new) → AreNumbered (n + 1) new
+pub numbered_rest : (n : ℕ) (e : ℕ × NodeRow) (new : Nodes) → AreNumbered n (e ∷ new) → AreNumbered (n + 1) new
 numbered_rest n e new h place f is = omega (arith, h (suc place) f is)
 
 above_all : (m n : ℕ) (new : Nodes) → m < n → AreNumbered n new → AllByRecursion (λ k. nat_cmp m k ≡ Less) (keys_of new)

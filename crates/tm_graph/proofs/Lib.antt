@@ -15,3 +15,4 @@ pub mod Climbs
 pub mod OneGone
 pub mod Joining
 pub mod Growing
+pub mod Undone

@@ -1,8 +1,10 @@
 -- Nodes that come together, above all others.
-use Rattle.std.specs.Prelude.{◌≡◌, ℕ, ◌+◌, ◌<◌, ◌≤◌, ◌^◌, ◌==◌, if◌then◌else◌, is_some, true, Some, ◌++◌, map, length, slice_get}
+use Rattle.std.specs.Prelude.{◌≡◌, ℕ, ◌+◌, ◌<◌, ◌≤◌, ◌^◌, ◌==◌, if◌then◌else◌, is_some, true, Some, List, ◌++◌, map, length, slice_get}
+use Rattle.std.specs.Option.{option_map}
 use Rattle.std.specs.List.{All}
 use Rattle.tm_tree.specs.declared.node.NodeRow.{NodeRow}
-use Rattle.tm_graph.specs.Nodes.{Nodes, node, entries_of, times, named, links_of, with_links, greatest, NamesRise}
+use Rattle.tm_graph.specs.Nodes.{Nodes, node, entries_of, times, named, links_of, root_links, with_links, greatest, NamesRise, IsGraph, IsLinked}
+use Rattle.tm_graph.specs.Losing.{IsGone, left}
 
 -- the links that a node gains by these nodes' entries and a root link of one of them
 abbrev pub gain : Nodes → ℕ → ℕ → ℕ
@@ -32,3 +34,13 @@ pub record MayGrow (g new : Nodes) (root : ℕ) : Type 0 where
   pub root_there : is_some (node (g ++ new) root) ≡ true
   pub low : greatest g + length new ≤ 2 ^ 62
   pub few : (q : ℕ) → links_of g q + gain new root q ≤ 2 ^ 62
+
+-- nodes that grew go with the root link that they came with, where each of them gained a link and all others have some
+abbrev pub GrowthIsUndone : Type 0
+GrowthIsUndone = (g new : Nodes) (root : ℕ) (gone : List ℕ) → IsGraph g → IsLinked g → MayGrow g new root
+    → ((q : ℕ) → is_some (node new q) ≡ true → 0 < gain new root q) → IsGone (grown g new root) root gone → left (grown g new root) root gone ≡ g
+
+-- what is under each number afterwards
+abbrev pub GrownReads : Type 0
+GrownReads = (g new : Nodes) (root : ℕ) → IsGraph g → MayGrow g new root
+    → IsGraph (grown g new root) × (0 < root_links (grown g new root) root) × ((q : ℕ) → node (grown g new root) q ≡ option_map (relinked g new root q) (node (g ++ new) q))

@@ -1,4 +1,5 @@
 //! What the definitions say together.
+ghost use Rattle.tm_graph.specs.Growing.{GrownReads, GrowthIsUndone};
 ghost use Rattle.tm_graph.specs.Reached.{NodesAreReached, LeavesLinked, GoneIsOne};
 ghost use Rattle.tm_graph.specs.Reads.{AddedReads, LinkedReads};
 ghost use Rattle.tm_graph.specs.Trees.{RowsStand};
@@ -37,4 +38,14 @@ pub fn rows_stand()
 /// The way down from a node ends at the node that stands at the path.
 pub fn ways_find()
     ensures { WaysFind }
+{}
+
+/// What a graph with new nodes and a root link has under each number.
+pub fn grown_reads()
+    ensures { GrownReads }
+{}
+
+/// Without the root link that new nodes came with, the graph is as it was before them.
+pub fn growth_is_undone()
+    ensures { GrowthIsUndone }
 {}

@@ -16,7 +16,8 @@ mod walk;
 pub use built::{Built, Gone, NodeBlobs, NodeRows};
 pub use graph::Graph;
 pub use laws::{
-    added_reads, gone_is_one, leaves_linked, linked_reads, nodes_are_reached, rows_stand, ways_find,
+    added_reads, gone_is_one, grown_reads, growth_is_undone, leaves_linked, linked_reads,
+    nodes_are_reached, rows_stand, ways_find,
 };
 pub use row::children_of;
 pub use walk::Walk;

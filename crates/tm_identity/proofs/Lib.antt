@@ -4,6 +4,7 @@ pub mod Parents
 pub mod Holders
 pub mod Counted
 pub mod Others
+pub mod Entries
 pub mod Alone
 pub mod Shared
 pub mod Reach

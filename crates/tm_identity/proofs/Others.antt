@@ -83,10 +83,10 @@ module _ (v : ℕ → NodeRow → Labelled) (g : Nodes) where
 
 -- ---- sums over rows at p
 
-module _ (v : ℕ → NodeRow → Labelled) (w : Labelled → ℕ) (g : Nodes) (ss : List ℕ) where
+module _ (v : ℕ → NodeRow → Labelled) (w : Names → Labelled → ℕ) (g : Nodes) (ss : List ℕ) where
   -- what a row at p counts beside the trees of these roots
   abbrev pub part : Names → Labelled → ℕ
-  part p row = if is_elsewhere (trees_of v g ss) row.label p then 0 else w row
+  part p row = if is_elsewhere (trees_of v g ss) row.label p then 0 else w p row
 
   abbrev pub total : LabelledTree → Names → ℕ
   total t p = sum_by (λ row. part (p ++ row.0) row.1) t

@@ -57,10 +57,10 @@ module _ (v : ℕ → NodeRow → Labelled) (g : Nodes) (before after : List ℕ
   -- ---- sums over rows at p
 
   abbrev mine : Names → Labelled → ℕ
-  mine p row = part v item_length g rest p row
+  mine p row = part v (λ q row. item_length row) g rest p row
 
   abbrev all_of : LabelledTree → Names → ℕ
-  all_of t p = total v item_length g rest t p
+  all_of t p = total v (λ q row. item_length row) g rest t p
 
   abbrev tree_to : ℕ → ℕ → LabelledTree
   tree_to depth n = rows_to v depth g n
@@ -68,7 +68,7 @@ module _ (v : ℕ → NodeRow → Labelled) (g : Nodes) (before after : List ℕ
   total-node : (depth n : ℕ) (p : Names) (row : NodeRow) → node g n ≡ Some row → all_of (tree_to (suc depth) n) p ≡ mine p (v n row) + sum_by (λ c. all_of (tree_to depth c.node) (p ++ c.name ∷ [])) (entries_of row)
   total-node depth n p row e =
       ap (λ o. all_of (rows_with v o n (tree_to depth)) p) e
-      ∙ omega (arith, sum_by-cons (λ (row : Names × Labelled). mine (p ++ row.0) row.1) ([], v n row) (of_children (tree_to depth) (entries_of row)), total-children v item_length g rest (tree_to depth) p (entries_of row), ap (λ (q : Names). mine q (v n row)) (append-nil p))
+      ∙ omega (arith, sum_by-cons (λ (row : Names × Labelled). mine (p ++ row.0) row.1) ([], v n row) (of_children (tree_to depth) (entries_of row)), total-children v (λ q row. item_length row) g rest (tree_to depth) p (entries_of row), ap (λ (q : Names). mine q (v n row)) (append-nil p))
 
   label_is : (n : ℕ) (row : NodeRow) → node g n ≡ Some row → label_of g n ≡ row.label
   label_is n row e = ap (λ o. unwrap_or (option_map (λ (row : NodeRow). row.label) o) 0) e

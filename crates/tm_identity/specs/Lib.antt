@@ -1,6 +1,7 @@
 pub mod Identities
 pub mod Sums
 pub mod Stores
+pub mod Entries
 pub mod Links
 pub mod Stored
 pub mod Uniques

@@ -20,6 +20,14 @@ abbrev pub sum_once : (Labelled → ℕ) → List LabelledTree → ℕ
 sum_once w [] = 0
 sum_once w (t ∷ trees) = sum_beside w trees t + sum_once w trees
 
+-- the same, where w may look at the whole tree and at the path
+abbrev pub sum_apart : (LabelledTree → Names → Labelled → ℕ) → List LabelledTree → LabelledTree → ℕ
+sum_apart w others t = sum_by (λ row. if is_elsewhere others row.1.label row.0 then 0 else w t row.0 row.1) t
+
+abbrev pub sum_over : (LabelledTree → Names → Labelled → ℕ) → List LabelledTree → ℕ
+sum_over w [] = 0
+sum_over w (t ∷ trees) = sum_apart w trees t + sum_over w trees
+
 -- the bytes of a file; none of a folder or link
 abbrev pub item_length : Labelled → ℕ
 item_length l = length (bytes_of l.item)

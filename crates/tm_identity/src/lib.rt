@@ -5,6 +5,6 @@
 mod laws;
 
 pub use laws::{
-    addition_keeps, identities_are_nodes, links_are_counted, nodes_stand, removal_keeps,
-    stored_is_counted, unique_fits, unique_is_counted,
+    addition_keeps, entries_stand, identities_are_nodes, links_are_counted, nodes_stand,
+    removal_keeps, stored_is_counted, sums_are_counted, unique_fits, unique_is_counted,
 };

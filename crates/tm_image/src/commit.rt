@@ -63,10 +63,62 @@ impl Image {
     /// records. A key that a put keeps the data of is there, some key is there afterwards, and the
     /// blobs are staged, each standing once. `Full` comes exactly by the rule of room.
     ///
-    /// The blobs are no longer staged afterwards: they are data of the records, or, where the commit
-    /// is refused or memory is, given back. Then all else is as before, and nothing outside changed.
-    /// A stop leaves the old records and tag or the new, each with its data; after a failure the
-    /// image is not to be used again.
+    /// The blobs are data of the records afterwards. Where the commit is refused or memory is, all is
+    /// as before, and the blobs are staged. A stop leaves the old records and tag or the new, each
+    /// with its data; after a failure the image is not to be used again.
+    pub fn try_commit<W: World>(
+        &mut self,
+        world: &mut W,
+        changes: Changes,
+        tag: [u8; 64],
+    ) -> Result<(), ImageError>
+        requires settled { IsSettled self.old }
+        requires space { HasRoom self.old }
+        requires count { length self.old.used ≡ W.blocks world.old self.old.side }
+        requires rising { IsStrictlyIncreasing changes.remove.items }
+        requires put { All (IsPut self.old.records) changes.put.items }
+        requires staged { (b : ℕ) → brought_by b changes.put.items ≤ staged b self.old }
+        requires some { changed changes.remove.items changes.put.items self.old.records ≢ [] }
+        requires tag { IsTag self.old.side tag }
+        requires stands { W.told → Stands self.old (disk self.old.side (now (W.log world.old))) }
+        ensures any_moment { W.told → let old = disk self.old.side (now (W.log world.old)) in
+            Runs self.old.side (LeavesOneOf self.old.side (entries_of old.bytes self.old.records) self.old.root.tag
+            (entries_of old.bytes (changed changes.remove.items changes.put.items self.old.records)) tag) (W.log world.old) (W.log world.new) }
+        ensures stands { W.told → OnOk result (Stands self.new (disk self.old.side (now (W.log world.new)))) }
+        ensures leaves { W.told → OnOk result (LeavesRead self.old.side (entries_of (disk self.old.side (now (W.log world.old))).bytes (changed changes.remove.items changes.put.items self.old.records)) tag (disk self.old.side (now (W.log world.new)))) }
+        ensures data { W.told → OnOk result (entries_of (disk self.old.side (now (W.log world.new))).bytes self.new.records ≡ entries_of (disk self.old.side (now (W.log world.old))).bytes self.new.records) }
+        ensures others { W.told → OnOk result ((b : ℕ) → 0 < staged b self.new → (disk self.old.side (now (W.log world.new))).bytes b ≡ (disk self.old.side (now (W.log world.old))).bytes b) }
+        ensures records { OnOk result (self.new.records ≡ changed changes.remove.items changes.put.items self.old.records) }
+        ensures tag { OnOk result (self.new.root.tag ≡ tag) }
+        ensures side { self.new.side ≡ self.old.side }
+        ensures size { length self.new.used ≡ length self.old.used }
+        ensures staged { OnOk result ((b : ℕ) → staged b self.new + brought_by b changes.put.items ≡ staged b self.old) }
+        ensures free { OnOk result (free_of self.new + table_len self.new.records + data_len self.new.records
+            ≡ free_of self.old + table_len self.old.records + data_len self.old.records + brought_len changes.put.items) }
+        ensures sound { IsSound self.new }
+        ensures settled { OnOk result (IsSettled self.new) }
+        ensures space { OnOk result (HasRoom self.new) }
+        ensures err { OnErr result (result ≢ Err ImageError.Fault → self.new ≡ self.old) }
+        ensures faulted { result ≡ Err ImageError.Fault → (self.new.records ≡ changed changes.remove.items changes.put.items self.old.records) × (self.new.root ≡ self.old.root) }
+        ensures untouched { OnErr result (result ≢ Err ImageError.Fault → world.new ≡ world.old) }
+        ensures full { (need free : ℕ) → result ≡ Err (ImageError.Full need free) → (free < need) × (free ≡ free_of self.old)
+            × (need ≡ need_of (table_len self.old.records) (table_len (changed changes.remove.items changes.put.items self.old.records)) (released_by changes.remove.items changes.put.items self.old.records)) }
+        ensures fits { OnOk result (need_of (table_len self.old.records) (table_len (changed changes.remove.items changes.put.items self.old.records)) (released_by changes.remove.items changes.put.items self.old.records) ≤ free_of self.old) }
+        ensures tried { IsErrOf result ImageError.Fault → need_of (table_len self.old.records) (table_len (changed changes.remove.items changes.put.items self.old.records)) (released_by changes.remove.items changes.put.items self.old.records) ≤ free_of self.old }
+        ensures blocks { W.blocks world.new ≡ W.blocks world.old }
+        ensures never_less { NeverLess (W.faults world.old) (W.faults world.new) }
+        ensures fault { IsErrOf result ImageError.Fault → Rose (W.faults world.old (part_of self.old.side)) (W.faults world.new (part_of self.old.side)) }
+    {
+        let prepared = self.prepare(changes)?;
+        match self.finish(world, prepared, tag) {
+            Ok(()) => Ok(()),
+            Err(_) => Err(ImageError::Fault),
+        }
+    }
+
+    /// As [`Image::try_commit`], but the blobs are given back where the commit is refused or memory
+    /// is: they are no longer staged afterwards. Then all else is as before, and nothing outside
+    /// changed.
     pub fn commit<W: World>(
         &mut self,
         world: &mut W,
@@ -117,16 +169,17 @@ impl Image {
                 return Err(ImageError::Memory);
             }
         };
-        let prepared = match self.prepare(changes) {
-            Ok(prepared) => prepared,
-            Err(error) => {
-                self.give_back(&blobs);
-                return Err(error);
-            }
-        };
-        match self.finish(world, prepared, tag) {
+        match self.try_commit(world, changes, tag) {
             Ok(()) => Ok(()),
-            Err(_) => Err(ImageError::Fault),
+            Err(ImageError::Fault) => Err(ImageError::Fault),
+            Err(ImageError::Full { need, free }) => {
+                self.give_back(&blobs);
+                Err(ImageError::Full { need, free })
+            }
+            Err(ImageError::Memory) => {
+                self.give_back(&blobs);
+                Err(ImageError::Memory)
+            }
         }
     }
 }

@@ -10,14 +10,16 @@ use Rattle.tm_reply.specs.Layout.{spaced, line_of}
 use Rattle.tm_reply.specs.Replies.{reply_text, rows_text}
 use Rattle.tm_text.specs.declared.line.Line.{Line}
 use Rattle.tm_text.specs.declared.line.Line.TheVariants as line
+use Rattle.tm_store_records.specs.States.{StoredStore}
+use Rattle.tm_tree.specs.Refusing.{first_refused}
 use Rattle.tm_tree.specs.declared.change.Change.{Change}
 use Rattle.tm_volume.specs.Stored.{StoredVolume, reopened}
 use Rattle.tm_machine.specs.Changing.{change_of}
 use Rattle.tm_machine.specs.Runs.{state_after}
 use Rattle.tm_machine.specs.States.{State, Stored, kept, opened}
 use Rattle.tm_machine.specs.Steps as steps
-use Rattle.tm_machine.specs.Steps.{after, after_by, other_after, refusal, reply, step}
-use Rattle.tm_machine.specs.Commits.{last_from, opening, other_commits, commits_by, unless_refused, commits_of, commits, LastOfLine, LastOfLines, LastOfOpening, RepliesAreSome}
+use Rattle.tm_machine.specs.Steps.{after, after_by, left, left_by, other_after, other_left, refusal, reply, start_tests, step}
+use Rattle.tm_machine.specs.Commits.{last_from, opening, other_commits, other_undone, ending, undone, undone_by, commits_by, unless_refused, commits_of, commits, LastOfLine, LastOfLines, LastOfOpening, RepliesAreSome}
 
 pub last_from-append : {A : Type 0} (x : A) (xs ys : List A) → last_from x (xs ++ ys) ≡ last_from (last_from x xs) ys
 last_from-append x [] ys = refl
@@ -25,19 +27,34 @@ last_from-append x (y ∷ xs) ys = last_from-append y xs ys
 
 other_last : (s : State) (l : Line) → last_from (kept s) (other_commits s l) ≡ kept (other_after s l)
 other_last s (line.NewVolume name id events) = refl
+other_last s (line.NewStore machine) = refl
+other_last s line.StartBackupBlock = refl
 other_last s _ = refl
 
 made_last : (s : State) (l : Line) (c : Option Change) → last_from (kept s) (commits_by s l c) ≡ kept (after_by s l c)
 made_last s l (Some c) = refl
 made_last s l None = other_last s l
 
-unless_last : (why : Option Refused) (s new : State) (made : List Stored) → last_from (kept s) made ≡ kept new
-    → last_from (kept s) (unless_refused why made) ≡ kept (steps.unless_refused why s new)
-unless_last None s new made h = h
-unless_last (Some why) s new made h = refl
+ending_last : (why : Option Refused) (s : State) → last_from (kept s) (ending why s) ≡ kept (steps.ended why s)
+ending_last None s = refl
+ending_last (Some why) s = refl
+
+other_undone_last : (s : State) (l : Line) → last_from (kept s) (other_undone s l) ≡ kept (other_left s l)
+other_undone_last s line.StartBackupBlock = ending_last (first_refused (start_tests s)) s
+other_undone_last s _ = refl
+
+undone_last : (s : State) (l : Line) (c : Option Change) → last_from (kept s) (undone_by s l c) ≡ kept (left_by s l c)
+undone_last s l (Some c) = refl
+undone_last s l None = other_undone_last s l
+
+unless_last : (why : Option Refused) (s left new : State) (undone made : List Stored) → last_from (kept s) undone ≡ kept left → last_from (kept s) made ≡ kept new
+    → last_from (kept s) (unless_refused why undone made) ≡ kept (steps.unless_refused why left new)
+unless_last None s left new undone made g h = h
+unless_last (Some why) s left new undone made g h = g
 
 pub last_of_line : LastOfLine
-last_of_line s l = unless_last (refusal s l) s (after s l) (commits_by s l (change_of l)) (made_last s l (change_of l))
+last_of_line s l =
+    unless_last (refusal s l) s (left s l) (after s l) (undone s l) (commits_by s l (change_of l)) (undone_last s l (change_of l)) (made_last s l (change_of l))
 
 pub last_of_lines : LastOfLines
 last_of_lines s [] = refl
@@ -46,20 +63,20 @@ last_of_lines s (l ∷ lines) =
     ∙ ap (λ (x : Stored). last_from x (commits (step s l) lines)) (last_of_line s l)
     ∙ last_of_lines (step s l) lines
 
-abbrev with_volume : StoredVolume → Stored
-with_volume v = record { volume = Some v }
+abbrev with_volume : StoredVolume → Option StoredStore → Stored
+with_volume v z = record { volume = Some v; store = z }
 
-clean_last : (b : Bool) (v new : StoredVolume)
-    → last_from (with_volume v) (if b then [] else with_volume (if b then v else new) ∷ []) ≡ with_volume (if b then v else new)
-clean_last true v new = refl
-clean_last false v new = refl
+clean_last : (b : Bool) (v new : StoredVolume) (z : Option StoredStore)
+    → last_from (with_volume v z) (if b then [] else with_volume (if b then v else new) z ∷ []) ≡ with_volume (if b then v else new) z
+clean_last true v new z = refl
+clean_last false v new z = refl
 
-opened_last : (blocks : ℕ) (v : Option StoredVolume) → last_from (record { volume = v }) (opening (record { volume = v })) ≡ kept (opened blocks (record { volume = v }))
-opened_last blocks None = refl
-opened_last blocks (Some v) = clean_last v.clean v _
+opened_last : (n k : ℕ) (v : Option StoredVolume) (z : Option StoredStore) → last_from (record { volume = v; store = z }) (opening (record { volume = v; store = z })) ≡ kept (opened n k (record { volume = v; store = z }))
+opened_last n k None z = refl
+opened_last n k (Some v) z = clean_last v.clean v _ z
 
 pub last_of_opening : LastOfOpening
-last_of_opening blocks r = opened_last blocks r.volume
+last_of_opening n k r = opened_last n k r.volume r.store
 
 closing_some : (why : Option Refused) → 0 < length (closing_text why)
 unfolding closing_text

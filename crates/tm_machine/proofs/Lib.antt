@@ -1,6 +1,15 @@
 pub mod Reading
 pub mod CommitLemmas
+pub mod FitLemmas
 pub mod StopLemmas
-pub mod LineLemmas
+pub mod Resting
+pub mod QueryLines
+pub mod VolumeLines
+pub mod StoreLines
+pub mod CopyLemmas
+pub mod StartLemmas
+pub mod BackupLemmas
+pub mod DoesBackup
+pub mod StoredLemmas
 pub mod OpeningLemmas
 pub mod ListingLemmas

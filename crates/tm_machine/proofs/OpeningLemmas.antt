@@ -1,11 +1,12 @@
 -- Opening: what an image reads as, and the commit that begins a generation.
-use Rattle.std.proofs.Common.{◌≡◌, ◌⊎◌, inl, inr, ⊎_elim, ℕ, ◌+◌, ◌-◌, ◌≤◌, ◌<◌, ◌==◌, Bool, true, false, if◌then◌else◌, Option, Some, None, IfSome, List, [], ◌∷◌, length, refl, sym, ◌∙◌, ap, subst, arith, ◌^◌}
+use Rattle.std.proofs.Common.{◌≡◌, ◌⊎◌, inl, ⊎_elim, ℕ, ◌+◌, ◌-◌, ◌≤◌, ◌<◌, ◌==◌, Bool, true, false, if◌then◌else◌, Option, Some, None, List, [], ◌∷◌, refl, sym, ◌∙◌, ap, subst, arith, ◌^◌}
 use Rattle.std.specs.Option.{option_map}
 use Rattle.std.proofs.lemmas.Bool.Decides.{nat_tests}
+use Rattle.tm_base.specs.declared.refused.Side.{Side as Named}
+use Rattle.tm_base.specs.declared.refused.Side.TheVariants as named
 use Rattle.tm_gate.specs.Load.{IsUnformatted}
-use Rattle.tm_volume.specs.Answers.{IsSpent}
-use Rattle.tm_volume_records.specs.Rules.{Tag, IsTagged}
-use Rattle.tm_volume.specs.Reads.{SideReads, IsBlank, LeavesSide, LeavesEither, OneSide, IsUnformattedImage}
+use Rattle.tm_volume.specs.Answers.{IsSpent, FailsVolume}
+use Rattle.tm_volume.specs.Reads.{SideReads, LeavesSide, LeavesEither, OneSide, IsUnformattedImage}
 use Rattle.tm_volume.specs.Seen.{Seen as VolumeSeen, IsKept, IsReady, StandsOn, StandsLeaves, stored_on}
 use Rattle.tm_volume.specs.Stored.{StoredVolume, reopened, with_generation}
 use Rattle.tm_world.specs.Disk.{Disk, Image, IsLeft}
@@ -13,16 +14,22 @@ use Rattle.tm_world.specs.Log.{Log, now, Passes, Steps}
 use Rattle.tm_world.specs.Outside.{Outside, disk, AreApart}
 use Rattle.tm_world.specs.Runs.{Runs}
 use Rattle.tm_world.specs.Torn.{as_read}
+use Rattle.tm_world.specs.declared.cause.Cause.{Cause}
 use Rattle.tm_world.specs.declared.world.Side.TheVariants.{Volume as VolumeSide, Store as StoreSide}
-use Rattle.tm_world.proofs.Going.{Passes-none, Passes-weaker, Runs-none, Runs-stays, Runs-then, Runs-weaker}
-use Rattle.tm_machine.specs.Commits.{opening, opening_of, last_from}
-use Rattle.tm_machine.specs.States.{Stored, kept, opened}
-use Rattle.tm_machine.specs.Stops.{CanOpen, PairReads, IsAmong, LeavesCommits, LeavesPair}
-use Rattle.tm_machine.proofs.LineLemmas.{volume_moments, none_made, one_made}
+use Rattle.tm_world.proofs.Going.{Passes-now, Passes-then, Passes-weaker, Runs-none, Runs-stays, Runs-then, Runs-weaker}
+use Rattle.tm_store.specs.Sides.{SideReads as StoreSideReads, LeavesSide as LeavesStoreSide, OneSide as OneStoreSide, IsUnformattedImage as IsUnformattedStore}
+use Rattle.tm_store_records.specs.Held.{Held, stored_on as store_stored_on}
+use Rattle.tm_store_records.specs.States.{StoredStore, StoreReads, StoreFails}
+use Rattle.tm_machine.specs.Commits.{opening, opening_of}
+use Rattle.tm_machine.specs.States.{Stored, opened}
+use Rattle.tm_machine.specs.Stops.{CanOpen, CanOpenStore, IsAmong, IsBadSide, LeavesCommits, ReadsNow}
+use Rattle.tm_world.proofs.Pairs.{Runs-ends}
+use Rattle.tm_machine.specs.Session.{IsSynced, Standing, StoreStands, VolumeStands, state_on}
+use Rattle.tm_machine.proofs.Resting.{pair, seen, stored_in, held_in, volume_moments, rest_moment, none_made, one_made}
 
 -- ---- an image of which nothing is unsynced
 
-stable_image : (d : Disk) (image : Image) → ((b : ℕ) → d.loose b ≡ false) → IsLeft d image → image ≡ as_read d
+pub stable_image : (d : Disk) (image : Image) → ((b : ℕ) → d.loose b ≡ false) → IsLeft d image → image ≡ as_read d
 stable_image d image stable left = λ i. record { count = left.count i; bytes = λ b. left.stable b (stable b) i }
 
 stable_leaves : (d : Disk) (r : Option StoredVolume) → ((b : ℕ) → d.loose b ≡ false) → SideReads (as_read d) r → LeavesSide r d
@@ -121,21 +128,88 @@ unclean_goes s clean = goes s.clean clean
 pub stays_as_is : (log : Log) (old other : Option StoredVolume) → Runs VolumeSide (LeavesEither old other) log log
 stays_as_is log old other = Runs-none VolumeSide (LeavesEither old other) log
 
+-- ---- the store's side
+
+pub stable_store : (d : Disk) (r : Option StoredStore) → ((b : ℕ) → d.loose b ≡ false) → StoreSideReads (as_read d) r → LeavesStoreSide r d
+stable_store d r stable reads image left = subst (λ (x : Image). StoreSideReads x r) (sym (stable_image d image stable left)) reads
+
 -- ---- the commits of opening
 
-abbrev with_volume : Option StoredVolume → Stored
-with_volume v = record { volume = v }
+opening_case : (b : Bool) (s new : StoredVolume) (z : Option StoredStore) (u w : Image) → SideReads u (Some s) ⊎ SideReads u (Some (if b then s else new)) → StoreSideReads w z
+    → IsAmong (pair (Some s) z) (if b then [] else pair (Some (if b then s else new)) z ∷ []) u w
+opening_case true s new z u w h reads = ⊎_elim (λ is. none_made (Some s) z [] u w is reads) (λ is. none_made (Some s) z [] u w is reads) h
+opening_case false s new z u w h reads = ⊎_elim (λ is. none_made (Some s) z _ u w is reads) (λ is. one_made (pair (Some s) z) (Some new) z [] u w is reads) h
 
-opening_case : (b : Bool) (s new : StoredVolume) (v z : Image) → SideReads v (Some s) ⊎ SideReads v (Some (if b then s else new))
-    → IsAmong (with_volume (Some s)) (if b then [] else with_volume (Some (if b then s else new)) ∷ []) v z
-opening_case true s new v z h = ⊎_elim (none_made (Some s) [] v z) (none_made (Some s) [] v z) h
-opening_case false s new v z h = ⊎_elim (none_made (Some s) _ v z) (one_made (Some s) (Some new) v z) h
+opening_among : (r : Option StoredVolume) (z : Option StoredStore) (u w : Image) → SideReads u r ⊎ SideReads u (option_map reopened r) → StoreSideReads w z → IsAmong (pair r z) (opening_of r z) u w
+opening_among None z u w h reads = ⊎_elim (λ is. none_made None z [] u w is reads) (λ is. none_made None z [] u w is reads) h
+opening_among (Some s) z u w h reads = opening_case s.clean s _ z u w h reads
 
-opening_among : (r : Option StoredVolume) (v z : Image) → SideReads v r ⊎ SideReads v (option_map reopened r) → IsAmong (with_volume r) (opening_of r) v z
-opening_among None v z h = ⊎_elim (none_made None [] v z) (none_made None [] v z) h
-opening_among (Some s) v z h = opening_case s.clean s _ v z h
-
-pub opening_moments : (r : Stored) (old new : Log) → AreApart (now old) → Runs VolumeSide (LeavesEither r.volume (option_map reopened r.volume)) old new
+pub opening_moments : (r : Stored) (old new : Log) → IsSynced (now old) → ReadsNow r (now old) → Runs VolumeSide (LeavesEither r.volume (option_map reopened r.volume)) old new
     → Passes old new (LeavesCommits r (opening r) (now old).said)
-opening_moments r old new apart runs =
-    volume_moments r.volume (option_map reopened r.volume) r (opening r) old new apart (opening_among r.volume) runs
+opening_moments r old new synced reads runs =
+    volume_moments r.volume (option_map reopened r.volume) r.store (opening r) old new synced.apart (stable_store (disk StoreSide (now old)) r.store synced.store_stable reads.store_reads) (opening_among r.volume r.store) runs
+
+-- before anything is done
+at_first : (r : Stored) (o : Outside) → IsSynced o → ReadsNow r o → LeavesCommits r (opening r) o.said o
+at_first r o synced reads = rest_moment r (opening r) o synced.apart (λ v z v_left z_left. record {
+  volume_reads = stable_leaves (disk VolumeSide o) r.volume synced.volume_stable reads.volume_reads v v_left;
+  store_reads = stable_store (disk StoreSide o) r.store synced.store_stable reads.store_reads z z_left;
+})
+
+-- and then the store is read
+pub opening_reads : (r : Stored) (old mid new : Log) → IsSynced (now old) → ReadsNow r (now old) → Runs VolumeSide (LeavesEither r.volume (option_map reopened r.volume)) old mid
+    → Steps mid new (now mid) → Passes old new (LeavesCommits r (opening r) (now old).said)
+opening_reads r old mid new synced reads runs steps =
+    let first = opening_moments r old mid synced reads runs in
+    Passes-then old mid new _ first (Passes-weaker mid new _ _ (λ o e. subst (LeavesCommits r (opening r) (now old).said) (sym e) (Passes-now old mid _ first (at_first r (now old) synced reads))) steps.passes)
+
+-- what the opened session stands on
+pub opened_standing : (n k : ℕ) (v : Option VolumeSeen) (h : Option Held) (old mid new : Log) → AreApart (now old) → Runs VolumeSide (λ _. Unit {0}) old mid → Steps mid new (now mid)
+    → VolumeStands v (disk VolumeSide (now mid)) → StoreStands h (disk StoreSide (now new)) → Standing (seen n k v h None) (now new)
+opened_standing n k v h old mid new apart runs steps stands store_stands = record {
+  apart = subst AreApart (sym steps.ends) (Runs-ends VolumeSide _ old mid apart runs).apart;
+  volume_side = subst (λ (o : Outside). VolumeStands v (disk VolumeSide o)) (sym steps.ends) stands;
+  store_side = store_stands;
+}
+
+-- the store's side is not touched while the volume is opened
+pub other_side : (old mid : Log) → AreApart (now old) → Runs VolumeSide (λ _. Unit {0}) old mid → disk StoreSide (now mid) ≡ disk StoreSide (now old)
+other_side old mid apart runs = (Runs-ends VolumeSide _ old mid apart runs).there
+
+pub said_as_before : (old mid new : Log) → AreApart (now old) → Runs VolumeSide (λ _. Unit {0}) old mid → Steps mid new (now mid) → (now new).said ≡ (now old).said
+said_as_before old mid new apart runs steps = ap (λ (o : Outside). o.said) steps.ends ∙ (Runs-ends VolumeSide _ old mid apart runs).said
+
+-- the state of the session that is opened, where the store is read after the volume
+pub opened_state : (n k : ℕ) (v : Option VolumeSeen) (h : Option Held) (r : Stored) (mid new : Outside) → new ≡ mid → stored_in (disk VolumeSide mid).bytes v ≡ option_map reopened r.volume
+    → held_in (disk StoreSide new).bytes h ≡ r.store → state_on (seen n k v h None) new ≡ opened n k r
+opened_state n k v h r mid new ends volume_is store_is = λ i. record {
+  volume_blocks = n;
+  store_blocks = k;
+  volume = (ap (λ (o : Outside). stored_in (disk VolumeSide o).bytes v) ends ∙ volume_is) i;
+  store = store_is i;
+  moment = None;
+}
+
+-- an image that is bad: the volume's, or the store's, which the opening of the volume left as it was
+pub bad_volume : (side : Named) (cause : Cause) (place n k : ℕ) (told : Type 0) (o : Outside)
+    → (side ≡ named.Volume) × (3 ≤ n) × (told → FailsVolume (as_read (disk VolumeSide o)) cause place) → IsBadSide side cause place n k told o
+bad_volume side cause place n k told o h = subst (λ (x : Named). IsBadSide x cause place n k told o) (sym h.0) (h.1, h.2)
+
+pub bad_store : (side : Named) (cause : Cause) (place n k : ℕ) (told : Type 0) (o mid : Outside) → (told → disk StoreSide mid ≡ disk StoreSide o) → (told → CanOpen (as_read (disk VolumeSide o)))
+    → (side ≡ named.Store) × (3 ≤ k) × (told → StoreFails (as_read (disk StoreSide mid)) cause place) → IsBadSide side cause place n k told o
+bad_store side cause place n k told o mid same opens h =
+    subst (λ (x : Named). IsBadSide x cause place n k told o) (sym h.0)
+    (h.1, λ t. (opens t, subst (λ (d : Disk). StoreFails (as_read d) cause place) (same t) (h.2 t)))
+
+-- the store that was read is the one that the disk reads as
+pub same_store : OneStoreSide → (h : Held) (d : Disk) (r : Option StoredStore) → d.count ≤ 262144 → StoreReads (as_read d) (store_stored_on h d.bytes) → StoreSideReads (as_read d) r → Some (store_stored_on h d.bytes) ≡ r
+same_store one_side h d r small is reads = one_side (as_read d) (Some (store_stored_on h d.bytes)) r small is reads
+
+pub no_store : OneStoreSide → (d : Disk) (r : Option StoredStore) → d.count ≤ 262144 → IsUnformattedStore (as_read d) → StoreSideReads (as_read d) r → None ≡ r
+no_store one_side d r small unformatted reads = one_side (as_read d) None r small unformatted reads
+
+pub store_opens : (h : Held) (d : Disk) → StoreReads (as_read d) (store_stored_on h d.bytes) → CanOpenStore (as_read d)
+store_opens h d is = record { store = Some (store_stored_on h d.bytes); reads = is }
+
+pub unformatted_store_opens : (image : Image) → IsUnformattedStore image → CanOpenStore image
+unformatted_store_opens image un = record { store = None; reads = un }

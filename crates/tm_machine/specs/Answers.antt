@@ -1,14 +1,25 @@
 -- What a part of the session answers and leaves.
 use Rattle.std.specs.Prelude.{◌≡◌, ℕ, ◌<◌, ◌^◌, Option, Some, None, Result, Ok, Err, List, [], ◌∷◌}
-use Rattle.std.specs.Option.{option_map_or}
 use Rattle.tm_base.specs.declared.refused.LineFault.{LineFault}
 use Rattle.tm_base.specs.declared.refused.LineFault.TheVariants.{Refused as RefusedFor, Fault, Memory}
 use Rattle.tm_base.specs.declared.refused.Refused.{Refused}
 use Rattle.tm_reply.specs.declared.row.ReplyRow.{ReplyRow}
+use Rattle.std.specs.List.{filter_map}
+use Rattle.std.specs.Option.{option_map}
+use Rattle.tm_base.specs.Paths.{Names}
+use Rattle.tm_base.specs.declared.refused.Refused.TheVariants.{NoSnapshot}
+use Rattle.tm_graph.specs.Nodes.{Nodes, node, entries_of as entries_in}
+use Rattle.tm_store_records.specs.States.{item_on}
+use Rattle.tm_tree.specs.declared.item.Item.{Item}
+use Rattle.tm_tree.specs.declared.node.Child.{Child}
+use Rattle.tm_tree.specs.declared.node.NodeRow.{NodeRow}
+use Rattle.tm_tree.specs.Copies.{bare}
+use Rattle.tm_tree.specs.Listings.{entries_of}
 use Rattle.tm_tree.specs.Refusing.{Tests, first_refused}
-use Rattle.tm_tree.specs.States.{StoreState, backed_up}
-use Rattle.tm_volume.specs.Stored.{StoredVolume}
-use Rattle.tm_machine.specs.Steps.{start_tests, backup_tests, finished_rows, backed}
+use Rattle.tm_tree.specs.States.{Snapshot}
+use Rattle.tm_tree.specs.Walks.{walk}
+use Rattle.tm_machine.specs.Queries.{read_item}
+use Rattle.tm_machine.specs.declared.store.StoredItem.{StoredItem}
 
 -- by the tests of a line, its data lines and the state after it: done exactly where no test
 -- refuses it, and refused without a change where one does
@@ -39,22 +50,23 @@ IsRow row (Err (RefusedFor why)) = ⊥
 IsRow row (Err (Fault side)) = ⊥
 IsRow row (Err Memory) = Unit {0}
 
--- a backup that starts now and finishes at once: what it answers, and the store after it
-abbrev pub AnswersBackup : Option StoredVolume → Option ℕ → Option StoreState → Option StoreState → Result (List ReplyRow) LineFault → Type 0
-AnswersBackup v moment old new (Ok found) =
-    (first_refused (start_tests v old moment) ≡ None) × (found ≡ option_map_or (finished_rows moment) v []) × (new ≡ backed v old moment)
-AnswersBackup v moment old new (Err (RefusedFor why)) = (first_refused (start_tests v old moment) ≡ Some why) × (new ≡ old)
-AnswersBackup v moment old new (Err (Fault side)) = Unit {0}
-AnswersBackup v moment old new (Err Memory) = Unit {0}
+-- ---- stored items
 
--- what the end of a backup answers and leaves
-abbrev pub Finishes : StoredVolume → ℕ → StoreState → StoreState → Result (List ReplyRow) LineFault → Type 0
-Finishes v date old new (Ok found) = (found ≡ finished_rows (Some date) v) × (new ≡ backed_up old v.volume date)
-Finishes v date old new (Err (RefusedFor why)) = ⊥
-Finishes v date old new (Err (Fault side)) = Unit {0}
-Finishes v date old new (Err Memory) = Unit {0}
+-- the node stands at the path of the snapshot: the walk comes to its item, and its entries are what stands in that
+pub record HoldsNode (snapshot : Snapshot) (path : Names) (files : ℕ → List ℕ) (g : Nodes) (number : ℕ) (row : NodeRow) : Type 0 where
+  pub is : node g number ≡ Some row
+  pub walks : walk (bare snapshot.tree) path ≡ Ok (item_on (files number) row.body)
+  pub entries : entries_of (bare snapshot.tree) path ≡ filter_map (read_item files g) (entries_in row)
 
--- the date at which a backup starts, or why none may
-abbrev pub Starts : StoreState → Option ℕ → Result ℕ Refused → Type 0
-Starts store moment (Ok date) = (first_refused (backup_tests store moment) ≡ None) × (moment ≡ Some date) × (store.number < 2 ^ 40)
-Starts store moment (Err why) = first_refused (backup_tests store moment) ≡ Some why
+-- there is no snapshot, or the walk in it ends so
+abbrev pub MissesIn : Option Snapshot → Names → Refused → Type 0
+MissesIn None path why = why ≡ NoSnapshot
+MissesIn (Some snapshot) path why = walk (bare snapshot.tree) path ≡ Err why
+
+-- what a look for a stored item finds
+abbrev pub FindsIn : Option Snapshot → Names → (ℕ → List ℕ) → Nodes → Result StoredItem LineFault → Type 0
+FindsIn None path files g (Ok found) = ⊥
+FindsIn (Some snapshot) path files g (Ok found) = HoldsNode snapshot path files g found.number found.row.now
+FindsIn o path files g (Err (RefusedFor why)) = MissesIn o path why
+FindsIn o path files g (Err (Fault side)) = ⊥
+FindsIn o path files g (Err Memory) = Unit {0}

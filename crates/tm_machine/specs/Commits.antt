@@ -4,12 +4,15 @@ use Rattle.tm_base.specs.declared.refused.Refused.{Refused}
 use Rattle.tm_reply.specs.Replies.{reply_text}
 use Rattle.tm_text.specs.declared.line.Line.{Line}
 use Rattle.tm_text.specs.declared.line.Line.TheVariants as line
+use Rattle.std.specs.Option.{option_map}
+use Rattle.tm_store_records.specs.States.{StoredStore}
+use Rattle.tm_tree.specs.Refusing.{first_refused}
 use Rattle.tm_tree.specs.declared.change.Change.{Change}
 use Rattle.tm_volume.specs.Stored.{StoredVolume, reopened}
 use Rattle.tm_machine.specs.Changing.{change_of}
 use Rattle.tm_machine.specs.Runs.{state_after}
 use Rattle.tm_machine.specs.States.{State, Stored, kept, opened}
-use Rattle.tm_machine.specs.Steps.{changed, other_after, refusal, reply, step}
+use Rattle.tm_machine.specs.Steps.{begun, changed, ended, other_after, refusal, reply, start_tests, step}
 
 -- the last of a list, or what was there before it
 abbrev pub last_from : {A : Type 0} → A → List A → A
@@ -18,31 +21,54 @@ last_from x (y ∷ ys) = last_from y ys
 
 -- ---- opening
 
-abbrev pub opening_of : Option StoredVolume → List Stored
-opening_of None = []
-opening_of (Some v) = if v.clean then [] else record { volume = Some (reopened v) } ∷ []
+abbrev pub opening_of : Option StoredVolume → Option StoredStore → List Stored
+opening_of None z = []
+opening_of (Some v) z = if v.clean then [] else record { volume = Some (reopened v); store = z } ∷ []
 
 -- the commit of opening: a volume that was not closed cleanly begins a generation
 abbrev pub opening : Stored → List Stored
-opening r = opening_of r.volume
+opening r = opening_of r.volume r.store
 
 -- ---- a line
 
+-- a backup has started: its date is on the image
+abbrev pub started : State → Stored
+started s = record { volume = s.volume; store = option_map (begun s.moment) s.store }
+
 abbrev pub other_commits : State → Line → List Stored
 other_commits s (line.NewVolume name id events) = kept (other_after s (line.NewVolume name id events)) ∷ []
+other_commits s (line.NewStore machine) = kept (other_after s (line.NewStore machine)) ∷ []
+other_commits s line.StartBackupBlock = started s ∷ kept (other_after s line.StartBackupBlock) ∷ []
 other_commits s _ = []
 
 abbrev pub commits_by : State → Line → Option Change → List Stored
 commits_by s l (Some c) = kept (changed s c) ∷ []
 commits_by s l None = other_commits s l
 
-abbrev pub unless_refused : Option Refused → List Stored → List Stored
-unless_refused None made = made
-unless_refused (Some why) made = []
+-- where a backup that had started is refused, its date comes and goes
+abbrev pub ending : Option Refused → State → List Stored
+ending None s = started s ∷ kept (ended None s) ∷ []
+ending (Some why) s = []
 
--- the commits of a line: a refused line has none
+abbrev pub other_undone : State → Line → List Stored
+other_undone s line.StartBackupBlock = ending (first_refused (start_tests s)) s
+other_undone s _ = []
+
+abbrev pub undone_by : State → Line → Option Change → List Stored
+undone_by s l (Some c) = []
+undone_by s l None = other_undone s l
+
+-- the commits of a line that is refused
+abbrev pub undone : State → Line → List Stored
+undone s l = undone_by s l (change_of l)
+
+abbrev pub unless_refused : Option Refused → List Stored → List Stored → List Stored
+unless_refused None refused made = made
+unless_refused (Some why) refused made = refused
+
+-- the commits of a line: a refused line has none, but where a backup had started
 abbrev pub commits_of : State → Line → List Stored
-commits_of s l = unless_refused (refusal s l) (commits_by s l (change_of l))
+commits_of s l = unless_refused (refusal s l) (undone s l) (commits_by s l (change_of l))
 
 -- ---- lines
 
@@ -62,7 +88,7 @@ LastOfLines = (s : State) (lines : List Line) → last_from (kept s) (commits s 
 
 -- and that of opening is what is kept of the opened state
 abbrev pub LastOfOpening : Type 0
-LastOfOpening = (blocks : ℕ) (r : Stored) → last_from r (opening r) ≡ kept (opened blocks r)
+LastOfOpening = (volume_blocks store_blocks : ℕ) (r : Stored) → last_from r (opening r) ≡ kept (opened volume_blocks store_blocks r)
 
 -- each line has a reply
 abbrev pub RepliesAreSome : Type 0

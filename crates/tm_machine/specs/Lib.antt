@@ -2,6 +2,8 @@ pub mod States
 pub mod Queries
 pub mod Changing
 pub mod Steps
+pub mod Fitting
+pub mod Backups
 pub mod Answers
 pub mod Runs
 pub mod Commits

@@ -1,6 +1,7 @@
 -- The data lines of the lines that read.
-use Rattle.std.specs.Prelude.{ℕ, if◌then◌else◌, Option, Some, None, List, [], ◌∷◌, ◌++◌, length, map, count_by}
-use Rattle.std.specs.Option.{option_map_or}
+use Rattle.std.specs.Prelude.{ℕ, if◌then◌else◌, Option, Some, None, List, [], ◌∷◌, ◌++◌, length, map, count_by, ◌-◌, slice_get}
+use Rattle.std.specs.List.{filter_map}
+use Rattle.std.specs.Option.{option_map, option_map_or}
 use Rattle.tm_base.specs.Paths.{Names}
 use Rattle.tm_reply.specs.declared.row.Attributes.{Attributes}
 use Rattle.tm_reply.specs.declared.row.ListedName.{ListedName}
@@ -16,7 +17,15 @@ use Rattle.tm_text.specs.declared.place.ItemAt.{ItemAt}
 use Rattle.tm_tree.specs.declared.attrs.Attrs.{Attrs}
 use Rattle.tm_tree.specs.declared.item.Item.{Item}
 use Rattle.tm_tree.specs.declared.item.Item.TheVariants.{Folder, File, Link}
+use Rattle.tm_tree.specs.declared.node.LeafRow.{LeafRow}
 use Rattle.tm_tree.specs.declared.node.LeafRow.TheVariants as leaf
+use Rattle.tm_graph.specs.Nodes.{Nodes, node, entries_of as entries_in}
+use Rattle.tm_store_records.specs.declared.snapshot.Snapshot.{Snapshot as HeldSnapshot}
+use Rattle.tm_store_records.specs.States.{item_on}
+use Rattle.tm_tree.specs.declared.node.Child.{Child}
+use Rattle.tm_tree.specs.declared.node.NodeBody.{NodeBody}
+use Rattle.tm_tree.specs.declared.node.NodeBody.TheVariants as node_body
+use Rattle.tm_tree.specs.declared.node.NodeRow.{NodeRow}
 use Rattle.tm_tree.specs.declared.record.ItemBody.{ItemBody}
 use Rattle.tm_tree.specs.declared.record.ItemBody.TheVariants as body
 use Rattle.tm_tree.specs.Copies.{bare}
@@ -70,6 +79,41 @@ shown_rows e p entries =
 abbrev pub list_rows : Tree → Names → List ReplyRow
 list_rows t p = option_map_or (λ e. shown_rows e p (entries_of t p)) (item_at t p) []
 
+-- ---- nodes
+
+abbrev pub node_attributes : NodeBody → Attrs
+node_attributes (node_body.Folder a entries) = a
+node_attributes (node_body.Leaf (leaf.File a stamp size)) = a
+node_attributes (node_body.Leaf (leaf.Link a stamp target)) = a
+
+-- the file or link that a node is; none of a folder
+abbrev pub leaf_in : NodeBody → Option LeafRow
+leaf_in (node_body.Folder a entries) = None
+leaf_in (node_body.Leaf l) = Some l
+
+-- the line of a node, a file by its length
+abbrev pub node_line : NodeBody → ListedName → ReplyRow
+node_line (node_body.Folder a entries) name = row.Folder (attributes a) name
+node_line (node_body.Leaf (leaf.File a stamp size)) name = row.File (attributes a) size stamp name
+node_line (node_body.Leaf (leaf.Link a stamp target)) name = row.Link (attributes a) stamp name target
+
+abbrev pub child_line : Nodes → Child → Option ReplyRow
+child_line g c = option_map (λ r. node_line r.body (called.Entry c.name)) (node g c.node)
+
+-- the lines of entries
+abbrev pub child_lines : Nodes → List Child → List ReplyRow
+child_lines g children = filter_map (child_line g) children
+
+-- an entry's name and item, files with these bytes
+abbrev pub read_item : (ℕ → List ℕ) → Nodes → Child → Option (List ℕ × Item)
+read_item files g c = option_map (λ r. (c.name, item_on (files c.node) r.body)) (node g c.node)
+
+-- a node with its extras, and, if it is a folder, its entries
+abbrev pub node_lines : Nodes → NodeRow → Names → List ReplyRow
+node_lines g r p = node_line r.body (called.Path p) ∷ extra_rows (node_attributes r.body) ++ child_lines g (entries_in r)
+
+-- ---- contents
+
 abbrev pub content_row : Item → List ReplyRow
 content_row (Folder a) = []
 content_row (File a stamp bytes) = row.Contents bytes ∷ []
@@ -98,6 +142,22 @@ abbrev pub machine_rows : StoreState → List ReplyRow
 machine_rows store =
     map date_row store.snapshots
     ++ option_map_or (λ s. row.Latest s.date ∷ []) (latest store) []
+
+-- ---- the same, by the snapshots in memory
+
+abbrev pub held_paths : List ℕ → List HeldSnapshot → List ReplyRow
+held_paths machine snapshots = map (λ s. row.SnapshotPath machine s.date) snapshots
+
+abbrev pub held_dates : List HeldSnapshot → List ReplyRow
+held_dates snapshots = map (λ s. row.Snapshot s.date) snapshots
+
+abbrev pub held_latest : Option HeldSnapshot → List ReplyRow
+held_latest found = option_map_or (λ s. row.Latest s.date ∷ []) found []
+
+abbrev pub held_machine : List HeldSnapshot → List ReplyRow
+held_machine snapshots = held_dates snapshots ++ held_latest (slice_get snapshots (length snapshots - 1))
+
+-- ---- what a store path names
 
 -- the date of a snapshot that a store path names; none for the latest
 abbrev pub date_of : Which → Option ℕ

@@ -1,10 +1,10 @@
 -- The step of the plain machine: when each line is refused, what it answers, and what it does.
-use Rattle.std.specs.Prelude.{ℕ, ◌+◌, ◌^◌, Bool, true, false, not, nat_lt, nat_le, ◌==◌, Option, Some, None, is_some, is_none, unwrap_or, List, [], ◌∷◌, ◌++◌, length}
+use Rattle.std.specs.Prelude.{ℕ, ◌+◌, ◌-◌, ◌^◌, sum, Bool, true, false, not, nat_lt, nat_le, ◌==◌, Option, Some, None, is_some, is_none, unwrap_or, List, [], ◌∷◌, ◌++◌, length}
 use Rattle.std.specs.List.{list_any}
 use Rattle.std.specs.Option.{option_map, option_map_or}
 use Rattle.tm_base.specs.Paths.{Names, same_name}
 use Rattle.tm_base.specs.declared.refused.Refused.{Refused}
-use Rattle.tm_base.specs.declared.refused.Refused.TheVariants.{NoVolume, NoStore, Already, Small, IsFolder, DateNotLater, ClockBack, NoSnapshot, IdsSpent, IdTaken, NotBuilt}
+use Rattle.tm_base.specs.declared.refused.Refused.TheVariants.{NoVolume, NoStore, Already, Small, IsFolder, Full, DateNotLater, ClockBack, NoSnapshot, IdsSpent, IdTaken, NotBuilt}
 use Rattle.tm_reply.specs.declared.reply.Reply.{Reply}
 use Rattle.tm_reply.specs.declared.row.ReplyRow.{ReplyRow}
 use Rattle.tm_reply.specs.declared.row.ReplyRow.TheVariants as row
@@ -16,12 +16,17 @@ use Rattle.tm_tree.specs.declared.change.Change.{Change}
 use Rattle.tm_tree.specs.Changes.{item_tests}
 use Rattle.tm_tree.specs.Copies.{bare}
 use Rattle.tm_tree.specs.Refusing.{Tests, first_refused, too_many, needs_moment}
-use Rattle.tm_tree.specs.States.{StoreState, Snapshot, new_store, latest, backed_up}
+use Rattle.tm_tree.specs.States.{VolumeState, StoreState, Snapshot, new_store, latest, base, backed_up}
 use Rattle.tm_tree.specs.Trees.{Tree}
+use Rattle.tm_tree.specs.Views.{view}
 use Rattle.tm_tree.specs.Walks.{way, is_at_folder}
 use Rattle.tm_volume.specs.Changes as volume
 use Rattle.tm_volume.specs.Stored.{StoredVolume, new_stored}
-use Rattle.tm_machine.specs.States.{State}
+use Rattle.tm_image.specs.Room.{need_of}
+use Rattle.tm_store_records.specs.Sizes.{table_blocks, free_blocks, node_count}
+use Rattle.tm_store_records.specs.States.{StoredStore}
+use Rattle.tm_backup.specs.Walk.{staging}
+use Rattle.tm_machine.specs.States.{State, store_in}
 use Rattle.tm_machine.specs.Queries.{list_rows, content_rows, snapshot_paths, latest_path, store_rows, named_snapshot, holding_snapshot, stored_tree, walked}
 use Rattle.tm_machine.specs.Changing.{change_of}
 
@@ -57,10 +62,10 @@ abbrev pub new_volume_tests : State → ℕ → Tests
 new_volume_tests s id =
     (is_some s.volume, Already)
     ∷ (nat_lt s.volume_blocks least_blocks, Small)
-    ∷ needs_moment s.moment ++ (is_taken s.store id, IdTaken) ∷ []
+    ∷ needs_moment s.moment ++ (is_taken (store_in s.store) id, IdTaken) ∷ []
 
-abbrev pub new_store_tests : Option StoreState → Tests
-new_store_tests store = (is_some store, Already) ∷ []
+abbrev pub new_store_tests : State → Tests
+new_store_tests s = (is_some s.store, Already) ∷ (nat_lt s.store_blocks least_blocks, Small) ∷ []
 
 -- a file or link is needed at p
 abbrev pub content_tests : Tree → Names → Tests
@@ -82,8 +87,40 @@ backup_tests store moment =
     ++ needs_moment moment
     ++ (nat_le (2 ^ 40) store.number, IdsSpent) ∷ []
 
-abbrev pub start_tests : Option StoredVolume → Option StoreState → Option ℕ → Tests
-start_tests v store moment = on_volume v (λ _. on_store store (λ store. backup_tests store moment))
+-- a backup that would not start
+abbrev pub start_tests : State → Tests
+start_tests s = on_volume s.volume (λ _. on_store (store_in s.store) (λ store. backup_tests store s.moment))
+
+-- nodes of a store
+abbrev pub most_nodes : ℕ
+most_nodes = 262144
+
+-- files of so many blocks are staged one after the other, where the table takes t blocks
+abbrev pub staging_tests : ℕ → ℕ → List ℕ → Tests
+staging_tests t free [] = []
+staging_tests t free (blocks ∷ others) = (nat_lt free (blocks + t), Full (blocks + t) free) ∷ staging_tests t (free - blocks) others
+
+-- the commit that makes `new` of a store when so many blocks are staged
+abbrev pub finish_tests : ℕ → StoreState → StoreState → ℕ → Tests
+finish_tests blocks store new staged =
+    let need = need_of (table_blocks store) (table_blocks new) 0 in let free = free_blocks blocks store - staged in
+    (nat_lt free need, Full need free) ∷ []
+
+-- what only the walk finds out: a file that doesn't fit, then too many nodes, then a snapshot that doesn't fit
+abbrev pub walk_tests : ℕ → StoreState → VolumeState → ℕ → Tests
+walk_tests blocks store v date =
+    let staged = staging (base store v.id) (view v.contents.fixed v.contents.tree) in let new = backed_up store v date in
+    staging_tests (table_blocks store) (free_blocks blocks store) staged
+    ++ too_many most_nodes (node_count new)
+    ++ finish_tests blocks store new (sum staged)
+
+abbrev pub walks_tests : ℕ → Option StoredVolume → Option StoreState → Option ℕ → Tests
+walks_tests blocks (Some v) (Some store) (Some date) = walk_tests blocks store v.volume date
+walks_tests blocks _ _ _ = []
+
+-- a backup that runs to its end at once
+abbrev pub whole_tests : State → Tests
+whole_tests s = start_tests s ++ walks_tests s.store_blocks s.volume (store_in s.store) s.moment
 
 -- a store path names no snapshot
 abbrev pub snapshot_tests : Option Snapshot → Tests
@@ -104,15 +141,15 @@ place_tests store (place.Item item) = stored_tests item_tests (holding_snapshot 
 abbrev pub other_tests : State → Line → Tests
 other_tests s (line.At date) = clock_tests s.moment date
 other_tests s (line.NewVolume name id events) = new_volume_tests s id
-other_tests s (line.NewStore machine) = new_store_tests s.store
+other_tests s (line.NewStore machine) = new_store_tests s
 other_tests s (line.Ls p) = on_volume s.volume (λ v. item_tests v.volume.contents.tree p)
 other_tests s (line.Cat p) = on_volume s.volume (λ v. content_tests v.volume.contents.tree p)
-other_tests s line.StartBackupBlock = start_tests s.volume s.store s.moment
-other_tests s line.ListBackups = on_store s.store (λ store. [])
-other_tests s line.LatestBackup = on_store s.store (λ store. snapshot_tests (latest store))
-other_tests s line.MachineDirectory = on_store s.store (λ store. [])
-other_tests s (line.StoreLs at) = on_store s.store (λ store. place_tests store at)
-other_tests s (line.StoreCat item) = on_store s.store (λ store. stored_tests content_tests (holding_snapshot store item) item.path)
+other_tests s line.StartBackupBlock = whole_tests s
+other_tests s line.ListBackups = on_store (store_in s.store) (λ store. [])
+other_tests s line.LatestBackup = on_store (store_in s.store) (λ store. snapshot_tests (latest store))
+other_tests s line.MachineDirectory = on_store (store_in s.store) (λ store. [])
+other_tests s (line.StoreLs at) = on_store (store_in s.store) (λ store. place_tests store at)
+other_tests s (line.StoreCat item) = on_store (store_in s.store) (λ store. stored_tests content_tests (holding_snapshot store item) item.path)
 other_tests s _ = not_built
 
 -- a line that changes the contents of the volume
@@ -140,24 +177,32 @@ abbrev pub rows : State → Line → List ReplyRow
 rows s (line.Ls p) = option_map_or (λ v. list_rows v.volume.contents.tree p) s.volume []
 rows s (line.Cat p) = option_map_or (λ v. content_rows v.volume.contents.tree p) s.volume []
 rows s line.StartBackupBlock = option_map_or (finished_rows s.moment) s.volume []
-rows s line.ListBackups = option_map_or snapshot_paths s.store []
-rows s line.LatestBackup = option_map_or latest_path s.store []
-rows s line.MachineDirectory = option_map_or (λ store. row.MachineDirectory store.machine ∷ []) s.store []
-rows s (line.StoreLs at) = option_map_or (λ store. store_rows store at) s.store []
-rows s (line.StoreCat item) = option_map_or (λ store. content_rows (stored_tree (holding_snapshot store item)) item.path) s.store []
+rows s line.ListBackups = option_map_or snapshot_paths (store_in s.store) []
+rows s line.LatestBackup = option_map_or latest_path (store_in s.store) []
+rows s line.MachineDirectory = option_map_or (λ store. row.MachineDirectory store.machine ∷ []) (store_in s.store) []
+rows s (line.StoreLs at) = option_map_or (λ store. store_rows store at) (store_in s.store) []
+rows s (line.StoreCat item) = option_map_or (λ store. content_rows (stored_tree (holding_snapshot store item)) item.path) (store_in s.store) []
 rows s _ = []
 
 -- ---- what a line does that is not refused
 
+-- a store, and no date
+abbrev pub at_rest : StoreState → StoredStore
+at_rest store = record { store = store; running = None }
+
+-- the store while a backup of this date runs
+abbrev pub begun : Option ℕ → StoredStore → StoredStore
+begun date z = record { store = z.store; running = date }
+
 -- a backup that starts now and finishes at once
-abbrev pub backed : Option StoredVolume → Option StoreState → Option ℕ → Option StoreState
-backed (Some v) (Some store) (Some date) = Some (backed_up store v.volume date)
-backed _ store _ = store
+abbrev pub backed : Option StoredVolume → Option StoredStore → Option ℕ → Option StoredStore
+backed (Some v) (Some z) (Some date) = Some (at_rest (backed_up z.store v.volume date))
+backed _ z _ = z
 
 abbrev pub other_after : State → Line → State
 other_after s (line.At date) = record s { moment = Some date }
 other_after s (line.NewVolume name id events) = record s { volume = Some (new_stored name id events (unwrap_or s.moment 0)) }
-other_after s (line.NewStore machine) = record s { store = Some (new_store machine) }
+other_after s (line.NewStore machine) = record s { store = Some (at_rest (new_store machine)) }
 other_after s line.StartBackupBlock = record s { store = backed s.volume s.store s.moment }
 other_after s _ = s
 
@@ -170,6 +215,25 @@ after_by s l None = other_after s l
 
 abbrev pub after : State → Line → State
 after s l = after_by s l (change_of l)
+
+-- ---- what a line leaves that is refused
+
+-- a backup that had started, and no date
+abbrev pub ended : Option Refused → State → State
+ended None s = record s { store = option_map (λ z. at_rest z.store) s.store }
+ended (Some why) s = s
+
+-- a refused line changes nothing, but that a backup which had started has ended
+abbrev pub other_left : State → Line → State
+other_left s line.StartBackupBlock = ended (first_refused (start_tests s)) s
+other_left s _ = s
+
+abbrev pub left_by : State → Line → Option Change → State
+left_by s l (Some c) = s
+left_by s l None = other_left s l
+
+abbrev pub left : State → Line → State
+left s l = left_by s l (change_of l)
 
 -- ---- the step
 
@@ -185,6 +249,6 @@ abbrev pub unless_refused : Option Refused → State → State → State
 unless_refused None old new = new
 unless_refused (Some why) old new = old
 
--- the state after a line: a refused line changes nothing
+-- the state after a line
 abbrev pub step : State → Line → State
-step s l = unless_refused (refusal s l) s (after s l)
+step s l = unless_refused (refusal s l) (left s l) (after s l)

@@ -1,22 +1,34 @@
 //! Backups.
-ghost use Rattle.std.specs.Prelude.{◌≡◌, ◌<◌, ◌^◌, ◌∷◌, [], ℕ, Err, IfOk, IfSome, option_map};
-ghost use Rattle.tm_base.specs.declared.refused.Refused.{Refused};
+ghost use Rattle.std.specs.Prelude.{◌≡◌, ◌≤◌, ◌∷◌, [], ℕ, List, Some, None, Err, IfOk, OnOk, IfSome, length};
 ghost use Rattle.tm_base.specs.declared.refused.Side.{Side as Named};
-ghost use Rattle.tm_tree.specs.Views.{view};
-ghost use Rattle.tm_volume.specs.Seen.{IsReady, stored_on, tree_on};
+ghost use Rattle.tm_fit.specs.Fit.{Fits};
+ghost use Rattle.tm_image.specs.Seen.{Stands};
+ghost use Rattle.tm_store.specs.Answers.{IfRefused};
+ghost use Rattle.tm_store_records.specs.Held.{IsWhole, MayFinish, store_on, stored_on};
+ghost use Rattle.tm_store_records.specs.States.{LeavesStore};
+ghost use Rattle.tm_text.specs.declared.line.Line.TheVariants as line;
+ghost use Rattle.tm_volume.specs.Seen.{IsKept, IsReady, StandsOn, stored_on as volume_stored_on, volume_on};
 ghost use Rattle.tm_world.specs.Faults.{NeverLess, Rose};
-ghost use Rattle.tm_world.specs.Log.{Steps, now};
-ghost use Rattle.tm_world.specs.Outside.{disk};
-ghost use Rattle.tm_world.specs.declared.world.Side.TheVariants.{Volume as VolumeSide};
-ghost use Rattle.tm_machine.specs.Answers.{AnswersBackup, Finishes, Starts};
-ghost use Rattle.tm_machine.specs.Session.{part_of};
+ghost use Rattle.tm_world.specs.Log.{now};
+ghost use Rattle.tm_world.specs.Outside.{AreApart, disk};
+ghost use Rattle.tm_world.specs.Runs.{Runs};
+ghost use Rattle.tm_world.specs.declared.world.Side.TheVariants.{Volume as VolumeSide, Store as StoreSide};
+ghost use Rattle.tm_machine.specs.Backups.{AnswersBackup, AnswersCopy, ComesLater, LeavesOneOf, Starts, dated, ends_as, finishes_as};
+ghost use Rattle.tm_machine.specs.Fitting.{PairFits};
+ghost use Rattle.tm_machine.specs.Session.{Does, IfReplied, IsIdle, IsOpen, Standing, other_effect, part_of, state_on};
 
+use crate::session::Session;
 use std::alloc::Global;
-use tm_base::{LineFault, Moment, Refused};
-use tm_plain::{Source, Store, Tree};
+use tm_backup::{Copied, copy_volume};
+use tm_base::{LineFault, Moment, Refused, Side};
 use tm_reply::{ReplyRow, ReplyRows};
+use tm_store::Store;
+use tm_store_growth::completed_is_sized;
+use tm_store_records::{held_is_store, held_sizes};
+use tm_tree::Mark;
 use tm_volume::Volume;
-use tm_world::World;
+use tm_volume::laws::standing_volume_is_left;
+use tm_world::{Failed, World};
 
 /// The most snapshots of a store.
 const MOST_SNAPSHOTS: usize = 1024;
@@ -24,11 +36,26 @@ const MOST_SNAPSHOTS: usize = 1024;
 /// The number at which backups end.
 const LAST_NUMBER: u64 = 1 << 40;
 
+// A backup of this date may follow the snapshots: it is later than the last one.
+fn check_later(store: &Store, date: Moment) -> Result<(), Refused>
+    ensures { ComesLater store.now.snapshots date result }
+{
+    let Some(latest) = store.snapshots().as_slice().last() else {
+        return Ok(());
+    };
+    if date <= latest.date {
+        return Err(Refused::DateNotLater { date: latest.date });
+    }
+    Ok(())
+}
+
 // The date of a backup that starts now, or why none may.
 fn start_date(store: &Store, moment: Option<Moment>) -> Result<Moment, Refused>
-    ensures { Starts store.now moment result }
+    requires { IsWhole store.now }
+    ensures starts { (bytes : ℕ → List ℕ) → Starts (store_on store.now bytes) moment result }
+    ensures may { IfOk result (MayFinish store.now) }
 {
-    let count = store.snapshots().len();
+    let count = store.snapshots().as_slice().len();
     if count >= MOST_SNAPSHOTS {
         return Err(Refused::TooMany {
             count: count as u128 + 1,
@@ -37,90 +64,127 @@ fn start_date(store: &Store, moment: Option<Moment>) -> Result<Moment, Refused>
     let Some(date) = moment else {
         return Err(Refused::NoMoment);
     };
-    if let Some(latest) = store.latest()
-        && date <= latest.date()
-    {
-        return Err(Refused::DateNotLater {
-            date: latest.date(),
-        });
-    }
+    check_later(store, date)?;
     if store.number() >= LAST_NUMBER {
         return Err(Refused::IdsSpent);
     }
     Ok(date)
 }
 
-/// A backup that starts now and finishes at once (`tmutil startbackup --block`).
-pub(crate) fn back_up<W: World>(
-    alloc: Global,
-    world: &mut W,
-    volume: &Option<Volume>,
-    store: &mut Option<Store>,
-    moment: Option<Moment>,
-) -> Result<ReplyRows, LineFault>
-    requires ready { IfSome volume.now (λ v. IsReady v (W.blocks world.old VolumeSide)) }
-    ensures answer { W.told → AnswersBackup (option_map (λ v. stored_on v (disk VolumeSide (now (W.log world.old))).bytes) volume.now) moment store.old store.new result }
-    ensures steps { W.told → Steps (W.log world.old) (W.log world.new) (now (W.log world.old)) }
-    ensures blocks { W.blocks world.new ≡ W.blocks world.old }
-    ensures never_less { NeverLess (W.faults world.old) (W.faults world.new) }
-    ensures fault { (side : Named) → result ≡ Err (LineFault.Fault side) → Rose (W.faults world.old (part_of side)) (W.faults world.new (part_of side)) }
-{
-    let Some(volume) = volume else {
-        return Err(LineFault::Refused(Refused::NoVolume));
-    };
-    let Some(store) = &mut *store else {
-        return Err(LineFault::Refused(Refused::NoStore));
-    };
-    match start_date(store, moment) {
-        Ok(date) => finish(alloc, world, volume, store, date),
-        Err(why) => Err(LineFault::Refused(why)),
+impl Session {
+    /// `tmutil startbackup --block`: a backup starts now, and finishes at once or ends.
+    pub(crate) fn back_up<W: World>(&mut self, world: &mut W) -> Result<ReplyRows, LineFault>
+        requires open { IsOpen self.old (W.blocks world.old) }
+        requires standing { W.told → Standing self.old (now (W.log world.old)) }
+        ensures does { W.told → let s = state_on self.old (now (W.log world.old)) in
+            PairFits s → Does (other_effect s line.StartBackupBlock) self.old self.new (W.log world.old) (W.log world.new) result }
+        ensures standing { W.told → IfReplied result (Standing self.new (now (W.log world.new))) }
+        ensures open { IfReplied result (IsOpen self.new (W.blocks world.new)) }
+        ensures blocks { W.blocks world.new ≡ W.blocks world.old }
+        ensures never_less { NeverLess (W.faults world.old) (W.faults world.new) }
+        ensures fault { (side : Named) → result ≡ Err (LineFault.Fault side) → Rose (W.faults world.old (part_of side)) (W.faults world.new (part_of side)) }
+    {
+        standing_volume_is_left();
+        let moment = self.moment;
+        let Some(volume) = &mut self.volume else {
+            return Err(LineFault::Refused(Refused::NoVolume));
+        };
+        let Some(store) = &mut self.store else {
+            return Err(LineFault::Refused(Refused::NoStore));
+        };
+        let date = match start_date(store, moment) {
+            Ok(date) => date,
+            Err(why) => return Err(LineFault::Refused(why)),
+        };
+        run_backup(self.alloc, world, volume, store, date)
     }
 }
 
-// The volume's tree without its exclusions.
-fn view_of<W: World>(alloc: Global, world: &mut W, volume: &Volume) -> Result<Tree, LineFault>
-    requires ready { IsReady volume.now (W.blocks world.old VolumeSide) }
-    ensures view { W.told → IfOk result (λ tree. tree ≡ view volume.now.fixed (tree_on volume.now (disk VolumeSide (now (W.log world.old))).bytes)) }
-    ensures refused { (why : Refused) → result ≡ Err (LineFault.Refused why) → ⊥ }
-    ensures steps { W.told → Steps (W.log world.old) (W.log world.new) (now (W.log world.old)) }
-    ensures blocks { W.blocks world.new ≡ W.blocks world.old }
-    ensures never_less { NeverLess (W.faults world.old) (W.faults world.new) }
-    ensures fault { (side : Named) → result ≡ Err (LineFault.Fault side) → Rose (W.faults world.old (part_of side)) (W.faults world.new (part_of side)) }
-{
-    let tree = Tree::of(alloc, volume.items(world)?);
-    Ok(tree.view(volume.fixed())?)
-}
-
-// Keeps a snapshot of the volume in the store.
-fn finish<W: World>(
+// A backup of this date from its start to its end: it finishes, or it is refused and its date goes.
+fn run_backup<W: World>(
     alloc: Global,
     world: &mut W,
-    volume: &Volume,
+    volume: &mut Volume,
     store: &mut Store,
     date: Moment,
 ) -> Result<ReplyRows, LineFault>
-    requires number { store.old.number < 2 ^ 40 }
-    requires ready { IsReady volume.now (W.blocks world.old VolumeSide) }
-    ensures answer { W.told → Finishes (stored_on volume.now (disk VolumeSide (now (W.log world.old))).bytes) date store.old store.new result }
-    ensures steps { W.told → Steps (W.log world.old) (W.log world.new) (now (W.log world.old)) }
+    requires kept { IsKept volume.old }
+    requires ready { IsReady volume.old (W.blocks world.old VolumeSide) }
+    requires idle { IsIdle store.old (W.blocks world.old StoreSide) }
+    requires next { MayFinish store.old date }
+    requires apart { W.told → AreApart (now (W.log world.old)) }
+    requires volume_stands { W.told → StandsOn volume.old (disk VolumeSide (now (W.log world.old))) }
+    requires stands { W.told → Stands store.old.image (disk StoreSide (now (W.log world.old))) }
+    ensures any_moment { W.told → let s = stored_on store.old (disk StoreSide (now (W.log world.old))).bytes in let v = volume_on volume.old (disk VolumeSide (now (W.log world.old))).bytes in
+        Fits (Some v) (Some s.store) → Runs StoreSide (LeavesOneOf s (dated s.store date ∷ ends_as (W.blocks world.old StoreSide) s.store v date ∷ [])) (W.log world.old) (W.log world.new) }
+    ensures answer { W.told → let s = stored_on store.old (disk StoreSide (now (W.log world.old))).bytes in let v = volume_stored_on volume.old (disk VolumeSide (now (W.log world.old))).bytes in
+        Fits (Some v.volume) (Some s.store) → AnswersBackup (W.blocks world.old StoreSide) s.store v date (stored_on store.new (disk StoreSide (now (W.log world.new))).bytes) result }
+    ensures alone { W.told → Runs StoreSide (λ _. Unit {0}) (W.log world.old) (W.log world.new) }
+    ensures stands { W.told → IfReplied result (Stands store.new.image (disk StoreSide (now (W.log world.new)))) }
+    ensures idle { IfReplied result (IsIdle store.new (W.blocks world.old StoreSide)) }
+    ensures volume { volume.new ≡ record volume.old { looks = volume.new.looks } }
     ensures blocks { W.blocks world.new ≡ W.blocks world.old }
     ensures never_less { NeverLess (W.faults world.old) (W.faults world.new) }
     ensures fault { (side : Named) → result ≡ Err (LineFault.Fault side) → Rose (W.faults world.old (part_of side)) (W.faults world.new (part_of side)) }
 {
-    let view = view_of(alloc, world, volume)?;
+    match store.begin(world, date) {
+        Ok(()) => {}
+        Err(Failed) => return Err(LineFault::Fault(Side::Store)),
+    }
+    match copy_and_finish(alloc, world, volume, store, date) {
+        Ok(rows) => Ok(rows),
+        Err(LineFault::Refused(why)) => match store.cancel(world) {
+            Ok(()) => Err(LineFault::Refused(why)),
+            Err(Failed) => Err(LineFault::Fault(Side::Store)),
+        },
+        Err(LineFault::Fault(side)) => Err(LineFault::Fault(side)),
+        Err(LineFault::Memory) => Err(LineFault::Memory),
+    }
+}
+
+// Copies the volume into the store, in which a backup of this date runs, and finishes that backup.
+fn copy_and_finish<W: World>(
+    alloc: Global,
+    world: &mut W,
+    volume: &mut Volume,
+    store: &mut Store,
+    date: Moment,
+) -> Result<ReplyRows, LineFault>
+    requires kept { IsKept volume.old }
+    requires ready { IsReady volume.old (W.blocks world.old VolumeSide) }
+    requires whole { IsWhole store.old }
+    requires count { length store.old.image.used ≡ W.blocks world.old StoreSide }
+    requires running { store.old.running ≡ Some date }
+    requires unstaged { store.old.staged ≡ [] }
+    requires apart { W.told → AreApart (now (W.log world.old)) }
+    requires volume_stands { W.told → StandsOn volume.old (disk VolumeSide (now (W.log world.old))) }
+    requires stands { W.told → Stands store.old.image (disk StoreSide (now (W.log world.old))) }
+    ensures any_moment { W.told → let s = store_on store.old (disk StoreSide (now (W.log world.old))).bytes in let v = volume_on volume.old (disk VolumeSide (now (W.log world.old))).bytes in
+        Fits (Some v) (Some s) → Runs StoreSide (LeavesStore (dated s date) (finishes_as (W.blocks world.old StoreSide) s v date)) (W.log world.old) (W.log world.new) }
+    ensures answer { W.told → let s = store_on store.old (disk StoreSide (now (W.log world.old))).bytes in let v = volume_stored_on volume.old (disk VolumeSide (now (W.log world.old))).bytes in
+        Fits (Some v.volume) (Some s) → AnswersCopy (W.blocks world.old StoreSide) s v date (stored_on store.new (disk StoreSide (now (W.log world.new))).bytes) result }
+    ensures alone { W.told → Runs StoreSide (λ _. Unit {0}) (W.log world.old) (W.log world.new) }
+    ensures stands { W.told → IfReplied result (Stands store.new.image (disk StoreSide (now (W.log world.new)))) }
+    ensures whole { IfReplied result (IsWhole store.new) }
+    ensures size { IfReplied result (length store.new.image.used ≡ length store.old.image.used) }
+    ensures idle { IfOk result (λ _. (store.new.running ≡ None) × (store.new.staged ≡ [])) }
+    ensures running { IfRefused result (λ _. store.new.running ≡ Some date) }
+    ensures volume { volume.new ≡ record volume.old { looks = volume.new.looks } }
+    ensures blocks { W.blocks world.new ≡ W.blocks world.old }
+    ensures never_less { NeverLess (W.faults world.old) (W.faults world.new) }
+    ensures fault { (side : Named) → result ≡ Err (LineFault.Fault side) → Rose (W.faults world.old (part_of side)) (W.faults world.new (part_of side)) }
+{
+    held_is_store();
+    held_sizes();
+    completed_is_sized();
+    let Copied { built, walked } = copy_volume(alloc, world, volume, store)?;
     let info = volume.info();
-    let source = Source {
-        name: volume.name(),
-        id: info.id,
+    let mark = Mark {
         generation: info.generation,
-        next: info.next,
-        view: &view,
+        cursor: info.next - 1,
     };
     let mut rows = ReplyRows::new(alloc);
-    rows.push(ReplyRow::Finished {
-        date,
-        walked: view.folders() as u64,
-    })?;
-    store.complete(&source, date)?;
+    rows.push(ReplyRow::Finished { date, walked })?;
+    store.complete(world, built, volume.name(), info.id, &mark)?;
     Ok(rows)
 }

@@ -6,17 +6,18 @@ ghost use Rattle.tm_tree.specs.States.{new_store};
 ghost use Rattle.tm_volume.specs.Stored.{new_stored};
 ghost use Rattle.tm_world.specs.Faults.{NeverLess, Rose};
 ghost use Rattle.tm_world.specs.Log.{now};
-ghost use Rattle.tm_machine.specs.Answers.{AnswersBy};
-ghost use Rattle.tm_machine.specs.Session.{Does, IfReplied, IsOpen, Standing, part_of, state_on};
-ghost use Rattle.tm_machine.specs.States.{kept};
-ghost use Rattle.tm_machine.specs.Steps.{is_taken, new_store_tests, new_volume_tests};
+ghost use Rattle.tm_world.specs.Outside.{Outside};
+ghost use Rattle.tm_machine.specs.Session.{Does, IfReplied, IsOpen, Standing, effect, part_of, state_on};
+ghost use Rattle.tm_machine.specs.States.{kept, store_in};
+ghost use Rattle.tm_machine.specs.Steps.{at_rest, is_taken, new_store_tests, new_volume_tests};
 
 use crate::session::Session;
 use tm_base::{LineFault, Name, Refused};
-use tm_plain::{Snapshot, Store};
 use tm_reply::ReplyRows;
+use tm_store::laws::{blank_is_left, none_or_store};
+use tm_store::{Snapshot, Store, held_reads};
 use tm_volume::Volume;
-use tm_volume::laws::blank_is_left;
+use tm_volume::laws::{blank_is_left as volume_blank_is_left, standing_volume_is_left};
 use tm_world::World;
 
 /// The fewest blocks of an image that can be formatted.
@@ -36,12 +37,15 @@ impl Session {
         requires standing { W.told → Standing self.old (now (W.log world.old)) }
         ensures does { W.told → let s = state_on self.old (now (W.log world.old)) in
             let after = record s { volume = Some (new_stored name.now id events (unwrap_or s.moment 0)) } in
-            Does (new_volume_tests s id) [] after (kept after ∷ []) self.old self.new (W.log world.old) (W.log world.new) result }
+            Does (effect (new_volume_tests s id) [] after (kept after ∷ []) s) self.old self.new (W.log world.old) (W.log world.new) result }
         ensures open { IfReplied result (IsOpen self.new (W.blocks world.new)) }
         ensures blocks { W.blocks world.new ≡ W.blocks world.old }
         ensures never_less { NeverLess (W.faults world.old) (W.faults world.new) }
         ensures fault { (side : Named) → result ≡ Err (LineFault.Fault side) → Rose (W.faults world.old (part_of side)) (W.faults world.new (part_of side)) }
     {
+        standing_volume_is_left();
+        volume_blank_is_left();
+        held_reads();
         blank_is_left();
         if self.volume.is_some() {
             return Err(LineFault::Refused(Refused::Already));
@@ -67,22 +71,46 @@ impl Session {
     }
 
     /// `newstore`.
-    pub(crate) fn new_store(&mut self, machine: &Name) -> Result<ReplyRows, LineFault>
-        ensures { AnswersBy (new_store_tests self.old.store) [] (record self.old { store = Some (new_store machine.now) }) self.old self.new result }
+    pub(crate) fn new_store<W: World>(
+        &mut self,
+        world: &mut W,
+        machine: &Name,
+    ) -> Result<ReplyRows, LineFault>
+        requires open { IsOpen self.old (W.blocks world.old) }
+        requires standing { W.told → Standing self.old (now (W.log world.old)) }
+        ensures does { W.told → let s = state_on self.old (now (W.log world.old)) in
+            let after = record s { store = Some (at_rest (new_store machine.now)) } in
+            Does (effect (new_store_tests s) [] after (kept after ∷ []) s) self.old self.new (W.log world.old) (W.log world.new) result }
+        ensures open { IfReplied result (IsOpen self.new (W.blocks world.new)) }
+        ensures blocks { W.blocks world.new ≡ W.blocks world.old }
+        ensures never_less { NeverLess (W.faults world.old) (W.faults world.new) }
+        ensures fault { (side : Named) → result ≡ Err (LineFault.Fault side) → Rose (W.faults world.old (part_of side)) (W.faults world.new (part_of side)) }
     {
+        standing_volume_is_left();
+        volume_blank_is_left();
+        held_reads();
+        blank_is_left();
+        none_or_store();
         if self.store.is_some() {
             return Err(LineFault::Refused(Refused::Already));
         }
-        self.store = Some(Store::new(self.alloc, machine)?);
+        if self.store_blocks < LEAST_BLOCKS {
+            return Err(LineFault::Refused(Refused::Small));
+        }
+        let store = match Store::blank(self.alloc, world, self.store_blocks, machine) {
+            Ok(store) => store,
+            Err(why) => return Err(why),
+        };
+        self.store = Some(store);
         Ok(ReplyRows::new(self.alloc))
     }
 
     // Whether a snapshot of the store has this volume id.
     fn is_taken(&self, id: u128) -> bool
-        ensures { result ≡ is_taken self.now.store id }
+        ensures { (o : Outside) → result ≡ is_taken (store_in (state_on self.now o).store) id }
     {
         match &self.store {
-            Some(store) => has_id(store.snapshots(), id),
+            Some(store) => has_id(store.snapshots().as_slice(), id),
             None => false,
         }
     }
@@ -91,5 +119,5 @@ impl Session {
 fn has_id(snapshots: &[Snapshot], id: u128) -> bool
     ensures { result ≡ list_any (λ s. s.id == id) snapshots.now }
 {
-    snapshots.iter().any(|snapshot| snapshot.id() == id)
+    snapshots.iter().any(|snapshot| snapshot.id == id)
 }

@@ -2,9 +2,13 @@
 //!
 //! Each function is empty; its contract is a law.
 ghost use Rattle.tm_machine.specs.Commits.{LastOfLine, LastOfLines, LastOfOpening, RepliesAreSome};
+ghost use Rattle.tm_machine.specs.Fitting.{FitLasts};
 ghost use Rattle.tm_machine.specs.Session.{SessionLeaves};
 
-use tm_volume::laws::{blank_is_left, standing_volume_is_left};
+use tm_fit::{backups_fit, changes_fit, new_stores_fit, new_volumes_fit};
+use tm_store::held_reads;
+use tm_store::laws::blank_is_left;
+use tm_volume::laws::{blank_is_left as volume_blank_is_left, standing_volume_is_left};
 
 /// The last commit is what is kept of the state after it: of a line, of lines, and of opening.
 pub fn commits_end()
@@ -23,5 +27,17 @@ pub fn session_is_left()
     ensures { SessionLeaves }
 {
     standing_volume_is_left();
+    volume_blank_is_left();
+    held_reads();
     blank_is_left();
+}
+
+/// A pair that fits stays so.
+pub fn fit_lasts()
+    ensures { FitLasts }
+{
+    changes_fit();
+    backups_fit();
+    new_volumes_fit();
+    new_stores_fit();
 }

@@ -8,14 +8,14 @@
 mod backup;
 mod changing;
 mod formatting;
-mod items;
 mod laws;
 mod listing;
 mod opening;
 mod session;
 mod store;
+mod stored;
 mod volume;
 
 pub use changing::change_of;
-pub use laws::{commits_end, replies_are_some, session_is_left};
+pub use laws::{commits_end, fit_lasts, replies_are_some, session_is_left};
 pub use session::{LineEnd, Session, SessionError};

@@ -12,7 +12,7 @@ ghost use Rattle.tm_volume.specs.Seen.{tree_on};
 ghost use Rattle.tm_machine.specs.Answers.{AnswersQuery};
 ghost use Rattle.tm_machine.specs.Queries.{body_attrs, body_row, list_rows, named_row};
 
-use crate::items::{attributes, push_extras};
+use crate::stored::{attributes, push_extras};
 use std::alloc::{AllocError, Global};
 use tm_base::{LineFault, Path};
 use tm_reply::{ListedName, ReplyRow, ReplyRows};

@@ -7,22 +7,27 @@ ghost use Rattle.tm_volume.specs.Reads.{LeavesEither, SideReads};
 ghost use Rattle.tm_volume.specs.Seen.{IsKept, IsReady, StandsOn, stored_on};
 ghost use Rattle.tm_volume.specs.Stored.{StoredVolume, reopened};
 ghost use Rattle.tm_world.specs.Faults.{NeverLess, Rose};
-ghost use Rattle.tm_world.specs.Log.{now, Passes};
+ghost use Rattle.tm_world.specs.Log.{now, Passes, Steps};
 ghost use Rattle.tm_world.specs.Runs.{Runs};
 ghost use Rattle.tm_world.specs.Outside.{disk};
 ghost use Rattle.tm_world.specs.Torn.{as_read};
 ghost use Rattle.tm_world.specs.declared.cause.Cause.{Cause};
 ghost use Rattle.tm_world.specs.declared.world.Part.{Part};
-ghost use Rattle.tm_world.specs.declared.world.Side.TheVariants.{Volume as VolumeSide};
-ghost use Rattle.tm_machine.specs.Session.{VolumeStands, part_of};
-ghost use Rattle.tm_machine.specs.Stops.{CanOpen};
+ghost use Rattle.tm_world.specs.declared.world.Side.TheVariants.{Volume as VolumeSide, Store as StoreSide};
+ghost use Rattle.tm_store.specs.Sides.{SideReads as StoreSideReads};
+ghost use Rattle.tm_store_records.specs.Held.{stored_on as store_stored_on};
+ghost use Rattle.tm_store_records.specs.States.{StoredStore, StoreFails};
+ghost use Rattle.tm_machine.specs.Session.{IsIdle, StoreStands, VolumeStands, part_of};
+ghost use Rattle.tm_machine.specs.Stops.{CanOpen, CanOpenStore};
 
 use crate::session::SessionError;
 use std::alloc::Global;
 use tm_base::Side;
 use tm_image::LoadError;
+use tm_store::Store;
+use tm_store::laws::sides_read_as_one;
 use tm_volume::Volume;
-use tm_volume::laws::{sides_read_as_one, standing_volume_is_left};
+use tm_volume::laws::{sides_read_as_one as volume_sides_read_as_one, standing_volume_is_left};
 use tm_world::{Failed, Part, World};
 
 // Begins a generation, in one commit, where the volume was not closed cleanly.
@@ -76,7 +81,7 @@ pub(crate) fn open_volume<W: World>(
     ensures never_less { NeverLess (W.faults world.old) (W.faults world.new) }
     ensures fault { (side : Named) → result ≡ Err (SessionError.Fault side) → Rose (W.faults world.old (part_of side)) (W.faults world.new (part_of side)) }
 {
-    sides_read_as_one();
+    volume_sides_read_as_one();
     standing_volume_is_left();
     match Volume::load(alloc, world, blocks) {
         Ok(mut volume) => match begin_generation(world, &mut volume) {
@@ -90,6 +95,42 @@ pub(crate) fn open_volume<W: World>(
             place,
         }),
         Err(LoadError::Fault) => Err(SessionError::Fault(Side::Volume)),
+        Err(LoadError::Memory) => Err(SessionError::Memory),
+    }
+}
+
+/// The store of a side of so many blocks, of which nothing is unsynced: none exactly where it is
+/// unformatted. It writes nothing.
+pub(crate) fn open_store<W: World>(
+    alloc: Global,
+    world: &mut W,
+    blocks: u32,
+) -> Result<Option<Store>, SessionError>
+    requires count { W.blocks world.old StoreSide ≡ blocks }
+    requires small { blocks ≤ 262144 }
+    requires stable { W.told → (b : ℕ) → (disk StoreSide (now (W.log world.old))).loose b ≡ false }
+    ensures state { W.told → (r : Option StoredStore) → StoreSideReads (as_read (disk StoreSide (now (W.log world.old)))) r
+        → IfOk result (λ z. option_map (λ h. store_stored_on h (disk StoreSide (now (W.log world.new))).bytes) z ≡ r) }
+    ensures opens { W.told → IfOk result (λ _. CanOpenStore (as_read (disk StoreSide (now (W.log world.old))))) }
+    ensures idle { IfOk result (λ z. IfSome z (λ h. IsIdle h blocks)) }
+    ensures stands { W.told → IfOk result (λ z. StoreStands z (disk StoreSide (now (W.log world.new)))) }
+    ensures steps { W.told → Steps (W.log world.old) (W.log world.new) (now (W.log world.old)) }
+    ensures bad { (side : Named) (cause : Cause) (place : ℕ) → result ≡ Err (SessionError.Bad side cause place)
+        → (side ≡ Named.Store) × (3 ≤ blocks) × (W.told → StoreFails (as_read (disk StoreSide (now (W.log world.old)))) cause place) }
+    ensures blocks { W.blocks world.new ≡ W.blocks world.old }
+    ensures never_less { NeverLess (W.faults world.old) (W.faults world.new) }
+    ensures fault { (side : Named) → result ≡ Err (SessionError.Fault side) → Rose (W.faults world.old (part_of side)) (W.faults world.new (part_of side)) }
+{
+    sides_read_as_one();
+    match Store::load(alloc, world, blocks) {
+        Ok(store) => Ok(Some(store)),
+        Err(LoadError::Unformatted) => Ok(None),
+        Err(LoadError::Bad { cause, place }) => Err(SessionError::Bad {
+            side: Side::Store,
+            cause,
+            place,
+        }),
+        Err(LoadError::Fault) => Err(SessionError::Fault(Side::Store)),
         Err(LoadError::Memory) => Err(SessionError::Memory),
     }
 }

@@ -2,32 +2,31 @@
 ghost use Rattle.std.specs.Prelude.{◌≡◌, ◌≤◌, [], IfOk, OnOk, Ok, Err, ℕ, Some, None};
 ghost use Rattle.tm_base.specs.declared.refused.Side.{Side as Named};
 ghost use Rattle.tm_text.specs.Bounds.{IsValidLine};
-ghost use Rattle.tm_volume.specs.Answers.{FailsVolume};
 ghost use Rattle.tm_world.specs.Faults.{NeverLess, Rose};
 ghost use Rattle.tm_world.specs.Log.{now, Passes};
 ghost use Rattle.tm_world.specs.Outside.{disk};
 ghost use Rattle.tm_world.specs.Torn.{as_read};
 ghost use Rattle.tm_world.specs.declared.cause.Cause.{Cause};
 ghost use Rattle.tm_world.specs.declared.world.Side.TheVariants.{Volume as VolumeSide, Store as StoreSide};
-ghost use Rattle.tm_machine.specs.Commits.{commits_by, commits_of, opening, other_commits};
-ghost use Rattle.tm_machine.specs.Changing.{change_of};
-ghost use Rattle.tm_machine.specs.Session.{Does, IfReplied, IsOpen, IsSynced, Standing, part_of, state_on};
+ghost use Rattle.tm_machine.specs.Commits.{commits_of, opening};
+ghost use Rattle.tm_machine.specs.Fitting.{FitsFor};
+ghost use Rattle.tm_machine.specs.Session.{Does, IfReplied, IsOpen, IsSynced, Standing, line_effect, other_effect, part_of, state_on};
 ghost use Rattle.tm_machine.specs.States.{Stored, kept, opened};
 ghost use Rattle.tm_machine.specs.Answers.{AnswersBy};
-ghost use Rattle.tm_machine.specs.Steps.{after, clock_tests, other_after, other_tests, reply, rows, step, tests};
-ghost use Rattle.tm_machine.specs.Stops.{CanOpen, LeavesCommits, ReadsNow};
+ghost use Rattle.tm_machine.specs.Steps.{clock_tests, reply, step};
+ghost use Rattle.tm_machine.specs.Stops.{CanOpen, CanOpenStore, IsBadSide, LeavesCommits, ReadsNow};
 
-use crate::backup::back_up;
 use crate::changing::change_of;
-use crate::opening::open_volume;
+use crate::opening::{open_store, open_volume};
 use std::alloc::{AllocError, Global};
 use std::marker::Model;
 use tm_base::{Full, LineFault, Moment, Refused, Side};
-use tm_plain::Store;
 use tm_reply::{Reply, ReplyRows};
+use tm_store::laws::blank_is_left;
+use tm_store::{Store, held_reads};
 use tm_text::Line;
 use tm_volume::Volume;
-use tm_volume::laws::{blank_is_left, standing_volume_is_left};
+use tm_volume::laws::{blank_is_left as volume_blank_is_left, standing_volume_is_left};
 use tm_world::{Cause, World};
 
 /// Why a session was not loaded.
@@ -57,14 +56,14 @@ pub enum LineEnd {
     Memory,
 }
 
-/// A volume on its image and a store in memory, each formatted or not, and the moment that was set
-/// last.
+/// A volume and a store on their images, each formatted or not, and the moment that was set last.
 ///
 /// Seen as these; with the disks it is a state of the plain machine.
 #[derive(Drop)]
 pub struct Session {
     pub(crate) alloc: Global,
     pub(crate) volume_blocks: u32,
+    pub(crate) store_blocks: u32,
     pub(crate) volume: Option<Volume>,
     pub(crate) store: Option<Store>,
     pub(crate) moment: Option<Moment>,
@@ -75,32 +74,34 @@ impl Model for Session {
 
     ghost Value = { Seen };
 
-    ghost view = { λ s. record { volume_blocks = s.volume_blocks; volume = s.volume; store = s.store; moment = s.moment } };
+    ghost view = { λ s. record { volume_blocks = s.volume_blocks; store_blocks = s.store_blocks; volume = s.volume; store = s.store; moment = s.moment } };
 }
 
 impl Session {
     /// Opens a pair of images, of so many blocks, of which nothing is unsynced.
     ///
-    /// A volume that was not closed cleanly begins a generation, in one commit. `Bad` comes where
-    /// the image of the volume is bad; that of the store is not read yet.
+    /// The volume is opened first: one that was not closed cleanly begins a generation, in one
+    /// commit. Then the store is read. `Bad` comes where one of the images is bad.
     pub fn load<W: World>(
         alloc: Global,
         world: &mut W,
         volume_blocks: u32,
-        _store_blocks: u32,
+        store_blocks: u32,
     ) -> Result<Session, SessionError>
         requires count { W.blocks world.old VolumeSide ≡ volume_blocks }
         requires small { volume_blocks ≤ 262144 }
+        requires store_count { W.blocks world.old StoreSide ≡ store_blocks }
+        requires store_small { store_blocks ≤ 262144 }
         requires settled { W.told → IsSynced (now (W.log world.old)) }
         ensures state { W.told → (r : Stored) → ReadsNow r (now (W.log world.old))
-            → IfOk result (λ s. state_on s (now (W.log world.new)) ≡ opened volume_blocks r) }
+            → IfOk result (λ s. state_on s (now (W.log world.new)) ≡ opened volume_blocks store_blocks r) }
         ensures any_moment { W.told → (r : Stored) → ReadsNow r (now (W.log world.old))
             → Passes (W.log world.old) (W.log world.new) (LeavesCommits r (opening r) (now (W.log world.old)).said) }
-        ensures opens { W.told → IfOk result (λ _. CanOpen (as_read (disk VolumeSide (now (W.log world.old))))) }
+        ensures opens { W.told → IfOk result (λ _. CanOpen (as_read (disk VolumeSide (now (W.log world.old)))) × CanOpenStore (as_read (disk StoreSide (now (W.log world.old))))) }
         ensures open { IfOk result (λ s. IsOpen s (W.blocks world.new)) }
         ensures standing { W.told → IfOk result (λ s. Standing s (now (W.log world.new))) }
         ensures bad { (side : Named) (cause : Cause) (place : ℕ) → result ≡ Err (SessionError.Bad side cause place)
-            → (side ≡ Named.Volume) × (3 ≤ volume_blocks) × (W.told → FailsVolume (as_read (disk VolumeSide (now (W.log world.old)))) cause place) }
+            → IsBadSide side cause place volume_blocks store_blocks W.told (now (W.log world.old)) }
         ensures said { W.told → (now (W.log world.new)).said ≡ (now (W.log world.old)).said }
         ensures blocks { W.blocks world.new ≡ W.blocks world.old }
         ensures never_less { NeverLess (W.faults world.old) (W.faults world.new) }
@@ -110,11 +111,16 @@ impl Session {
             Ok(volume) => volume,
             Err(error) => return Err(error),
         };
+        let store = match open_store(alloc, world, store_blocks) {
+            Ok(store) => store,
+            Err(error) => return Err(error),
+        };
         Ok(Session {
             alloc,
             volume_blocks,
+            store_blocks,
             volume,
-            store: None,
+            store,
             moment: None,
         })
     }
@@ -124,14 +130,18 @@ impl Session {
     /// What the line commits is on the image before the reply is given: a stop leaves what was
     /// kept before the line, or after one of its commits. After `Ok` the session goes on; after a
     /// fault or want of memory it is not to be used again.
+    ///
+    /// A backup compares stamps in place of bytes: what is said of it holds where the pair fits.
     pub fn line<W: World>(&mut self, world: &mut W, line: &Line) -> Result<Reply, LineEnd>
         requires line { IsValidLine line.now }
         requires open { IsOpen self.old (W.blocks world.old) }
         requires standing { W.told → Standing self.old (now (W.log world.old)) }
-        ensures reply { W.told → IfOk result (λ answer. answer ≡ reply (state_on self.old (now (W.log world.old))) line.now) }
-        ensures state { W.told → OnOk result (state_on self.new (now (W.log world.new)) ≡ step (state_on self.old (now (W.log world.old))) line.now) }
-        ensures any_moment { W.told → let s = state_on self.old (now (W.log world.old)) in
-            Passes (W.log world.old) (W.log world.new) (LeavesCommits (kept s) (commits_of s line.now) (now (W.log world.old)).said) }
+        ensures reply { W.told → let s = state_on self.old (now (W.log world.old)) in
+            FitsFor s line.now → IfOk result (λ answer. answer ≡ reply s line.now) }
+        ensures state { W.told → let s = state_on self.old (now (W.log world.old)) in
+            FitsFor s line.now → OnOk result (state_on self.new (now (W.log world.new)) ≡ step s line.now) }
+        ensures any_moment { W.told → let s = state_on self.old (now (W.log world.old)) in FitsFor s line.now
+            → Passes (W.log world.old) (W.log world.new) (LeavesCommits (kept s) (commits_of s line.now) (now (W.log world.old)).said) }
         ensures open { OnOk result (IsOpen self.new (W.blocks world.new)) }
         ensures standing { W.told → OnOk result (Standing self.new (now (W.log world.new))) }
         ensures blocks { W.blocks world.new ≡ W.blocks world.old }
@@ -167,7 +177,8 @@ impl Session {
         requires open { IsOpen self.old (W.blocks world.old) }
         requires standing { W.told → Standing self.old (now (W.log world.old)) }
         ensures does { W.told → let s = state_on self.old (now (W.log world.old)) in
-            Does (tests s line.now) (rows s line.now) (after s line.now) (commits_by s line.now (change_of line.now)) self.old self.new (W.log world.old) (W.log world.new) result }
+            FitsFor s line.now → Does (line_effect s line.now) self.old self.new (W.log world.old) (W.log world.new) result }
+        ensures standing { W.told → IfReplied result (Standing self.new (now (W.log world.new))) }
         ensures open { IfReplied result (IsOpen self.new (W.blocks world.new)) }
         ensures blocks { W.blocks world.new ≡ W.blocks world.old }
         ensures never_less { NeverLess (W.faults world.old) (W.faults world.new) }
@@ -185,29 +196,29 @@ impl Session {
         requires open { IsOpen self.old (W.blocks world.old) }
         requires standing { W.told → Standing self.old (now (W.log world.old)) }
         ensures does { W.told → let s = state_on self.old (now (W.log world.old)) in
-            Does (other_tests s line.now) (rows s line.now) (other_after s line.now) (other_commits s line.now) self.old self.new (W.log world.old) (W.log world.new) result }
+            FitsFor s line.now → Does (other_effect s line.now) self.old self.new (W.log world.old) (W.log world.new) result }
+        ensures standing { W.told → IfReplied result (Standing self.new (now (W.log world.new))) }
         ensures open { IfReplied result (IsOpen self.new (W.blocks world.new)) }
         ensures blocks { W.blocks world.new ≡ W.blocks world.old }
         ensures never_less { NeverLess (W.faults world.old) (W.faults world.new) }
         ensures fault { (side : Named) → result ≡ Err (LineFault.Fault side) → Rose (W.faults world.old (part_of side)) (W.faults world.new (part_of side)) }
     {
         standing_volume_is_left();
+        volume_blank_is_left();
+        held_reads();
         blank_is_left();
         match line {
             Line::At(date) => self.at(*date),
             Line::NewVolume { name, id, events } => self.new_volume(world, name, *id, *events),
-            Line::NewStore(machine) => self.new_store(machine),
-            Line::StartBackupBlock => {
-                let moment = self.moment;
-                back_up(self.alloc, world, &self.volume, &mut self.store, moment)
-            }
+            Line::NewStore(machine) => self.new_store(world, machine),
+            Line::StartBackupBlock => self.back_up(world),
             Line::Ls(path) => self.ls(path),
             Line::Cat(path) => self.cat(world, path),
             Line::ListBackups => self.list_backups(),
             Line::LatestBackup => self.latest_backup(),
             Line::MachineDirectory => self.machine_directory(),
             Line::StoreLs(place) => self.store_ls(place),
-            Line::StoreCat(item) => self.store_cat(item),
+            Line::StoreCat(item) => self.store_cat(world, item),
             _ => Err(LineFault::Refused(Refused::NotBuilt)),
         }
     }

@@ -18,7 +18,7 @@ ghost use Rattle.tm_world.specs.Faults.{NeverLess, Rose};
 ghost use Rattle.tm_world.specs.Log.{now};
 ghost use Rattle.tm_machine.specs.Answers.{AnswersQuery, AnswersReading, IsRow};
 ghost use Rattle.tm_machine.specs.Queries.{content_rows, list_rows};
-ghost use Rattle.tm_machine.specs.Session.{Alike, Does, IfReplied, IsOpen, Standing, part_of, state_on};
+ghost use Rattle.tm_machine.specs.Session.{Alike, Does, IfReplied, IsOpen, Standing, effect, part_of, state_on};
 ghost use Rattle.tm_machine.specs.States.{kept};
 ghost use Rattle.tm_machine.specs.Steps.{change_tests, changed, content_tests, on_volume};
 
@@ -27,8 +27,11 @@ use crate::session::Session;
 use std::alloc::Global;
 use tm_base::{LineFault, Path, Refused, Side};
 use tm_reply::{ReplyRow, ReplyRows};
+use tm_store::held_reads;
+use tm_store::laws::blank_is_left;
 use tm_tree::{Change, ItemBody, ItemRow, LeafRow};
 use tm_volume::Volume;
+use tm_volume::laws::{blank_is_left as volume_blank_is_left, standing_volume_is_left};
 use tm_world::{Bytes, Failed, World};
 
 impl Session {
@@ -42,12 +45,16 @@ impl Session {
         requires open { IsOpen self.old (W.blocks world.old) }
         requires standing { W.told → Standing self.old (now (W.log world.old)) }
         ensures does { W.told → let s = state_on self.old (now (W.log world.old)) in
-            Does (change_tests s change.now) [] (changed s change.now) (kept (changed s change.now) ∷ []) self.old self.new (W.log world.old) (W.log world.new) result }
+            Does (effect (change_tests s change.now) [] (changed s change.now) (kept (changed s change.now) ∷ []) s) self.old self.new (W.log world.old) (W.log world.new) result }
         ensures open { IfReplied result (IsOpen self.new (W.blocks world.new)) }
         ensures blocks { W.blocks world.new ≡ W.blocks world.old }
         ensures never_less { NeverLess (W.faults world.old) (W.faults world.new) }
         ensures fault { (side : Named) → result ≡ Err (LineFault.Fault side) → Rose (W.faults world.old (part_of side)) (W.faults world.new (part_of side)) }
     {
+        standing_volume_is_left();
+        volume_blank_is_left();
+        held_reads();
+        blank_is_left();
         let moment = self.moment;
         let Some(volume) = &mut self.volume else {
             return Err(LineFault::Refused(Refused::NoVolume));
@@ -150,7 +157,7 @@ fn show_contents<W: World>(
 }
 
 // One data line.
-fn one_row(alloc: Global, row: ReplyRow) -> Result<ReplyRows, LineFault>
+pub(crate) fn one_row(alloc: Global, row: ReplyRow) -> Result<ReplyRows, LineFault>
     ensures { IsRow row result }
 {
     let mut rows = ReplyRows::new(alloc);

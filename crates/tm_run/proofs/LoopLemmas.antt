@@ -1,7 +1,8 @@
 -- One line of a run, and the lines after it.
-use Rattle.std.proofs.Common.{◌≡◌, ℕ, ◌+◌, ◌<◌, ◌||◌, Bool, true, false, suc, List, ◌∷◌, ◌++◌, length, drop, get_or, is_some, add-one, drop-cons, sym, ap, ◌∙◌, refl}
+use Rattle.std.proofs.Common.{◌≡◌, ℕ, ◌+◌, ◌<◌, ◌||◌, Bool, true, false, suc, List, ◌∷◌, ◌++◌, length, drop, get_or, is_some, add-one, drop-cons, subst, sym, ap, ◌∙◌, refl}
 use Rattle.tm_text.specs.declared.line.Line.{Line}
 use Rattle.tm_reply.specs.Replies.{reply_text}
+use Rattle.tm_machine.specs.Fitting.{FitsAll, FitsFor}
 use Rattle.tm_machine.specs.States.{State}
 use Rattle.tm_machine.specs.Steps.{reply, refusal, step}
 use Rattle.tm_machine.specs.Runs.{said_of, any_refused, state_after}
@@ -30,3 +31,8 @@ pub state_more : (s t : State) (lines : List Line) (i : ℕ) (l : Line) → i < 
     → state_after s (drop i lines) ≡ state_after t (drop (i + 1) lines)
 state_more s t lines i l low is after =
     ap (state_after s) (lines_more lines i l low is) ∙ ap (λ (u : State). state_after u (drop (i + 1) lines)) (sym after)
+
+-- the pair fits for this line, and for those after it
+pub fits_more : (s : State) (lines : List Line) (i : ℕ) (l : Line) → i < length lines → l ≡ get_or lines i l → FitsAll s (drop i lines)
+    → FitsFor s l × FitsAll (step s l) (drop (i + 1) lines)
+fits_more s lines i l low is fits = subst (FitsAll s) (lines_more lines i l low is) fits

@@ -4,10 +4,12 @@ use Rattle.tm_world.specs.Outside.{Outside}
 use Rattle.tm_text.specs.declared.line.Line.{Line}
 use Rattle.tm_text.specs.Script.{IsScript, IsFirstBad}
 use Rattle.tm_text.specs.ScriptLaws.{OneMeaning, BadIsOutside, OneFirstBadLine}
-use Rattle.tm_base.specs.declared.refused.Side.TheVariants.{Volume as OfVolume}
+use Rattle.tm_base.specs.declared.refused.Side.TheVariants.{Volume as OfVolume, Store as OfStore}
 use Rattle.tm_machine.specs.States.{Stored, opened}
 use Rattle.tm_machine.specs.Runs.{said_of, any_refused}
-use Rattle.tm_volume.specs.Answers.{OneVolumeFailure, ReadsOrFailsVolume}
+use Rattle.tm_machine.specs.Stops.{CanOpen, PairReads}
+use Rattle.tm_store.specs.Sides.{OneSide as OneStoreSide, OneStoreFailure, ReadsOrFails}
+use Rattle.tm_volume.specs.Answers.{FailsVolume, IsSpent, OneVolumeFailure, ReadsOrFailsVolume}
 use Rattle.tm_volume.specs.Reads.{OneSide}
 use Rattle.tm_world.specs.Disk.{Image}
 use Rattle.tm_world.specs.Torn.{as_read}
@@ -16,8 +18,8 @@ use Rattle.tm_run.specs.declared.status.Status.{Status}
 use Rattle.tm_run.specs.declared.status.Status.TheVariants as status
 use Rattle.tm_run.specs.Command.{IsCommand, IsSomeCommand}
 use Rattle.tm_run.proofs.CommandLemmas.{one_command}
-use Rattle.tm_run.proofs.PairLemmas.{image_small}
-use Rattle.tm_run.specs.Outcomes.{IsStart, Outcome, Ran, usage, too_long, bad, runs, bad_image, replies, done_status, bad_line, bad_image_line}
+use Rattle.tm_run.proofs.PairLemmas.{image_small, store_small}
+use Rattle.tm_run.specs.Outcomes.{IsStart, Outcome, Ran, usage, too_long, bad, runs, bad_volume, bad_store, replies, done_status, bad_line, bad_image_line}
 use Rattle.tm_run.specs.Pairs.{AreSmall, found}
 
 some_command : {words : List (List ℕ)} {v s p : List ℕ} {create : Option ℕ} → IsCommand words v s p create → IsSomeCommand words
@@ -33,19 +35,48 @@ one_script words outside v s p script w t q other create make a x b y =
 
 -- ---- lines over images
 
-same_stored : (r q : Stored) → r.volume ≡ q.volume → r ≡ q
-same_stored r q same = λ i. record { volume = same i }
+same_stored : (r q : Stored) → r.volume ≡ q.volume → r.store ≡ q.store → r ≡ q
+same_stored r q same also = λ i. record { volume = same i; store = also i }
 
-module _ (one_side : OneSide) (failure : OneVolumeFailure) (whole : ReadsOrFailsVolume) where
-  one_ran : (v z : Image) (lines : List Line) (a b : Status) (x y : List ℕ) → v.count ≤ 262144 → Ran v z lines a x → Ran v z lines b y → (a ≡ b) × (x ≡ y)
-  one_ran v z lines a b x y few (bad_image {c} {place} many f) (bad_image {c = d} {place = other} more g) =
-      let same = failure v d c other place few g f in
+-- what an image is, on either side
+pub record SideLaws : Type 0 where
+  pub volume_is_one : OneSide
+  pub volume_fails : OneVolumeFailure
+  pub volume_whole : ReadsOrFailsVolume
+  pub store_is_one : OneStoreSide
+  pub store_fails : OneStoreFailure
+  pub store_whole : ReadsOrFails
+
+-- a volume that can be opened fails no check
+pub opens_whole : SideLaws → (v : Image) (c : Cause) (place : ℕ) → 3 ≤ v.count → v.count ≤ 262144 → CanOpen v → FailsVolume v c place → ⊥
+opens_whole laws v c place many few can fails = can.unspent (laws.volume_whole v can.volume c place many few can.reads fails).1
+
+-- and one that is read as something that isn't spent
+pub reads_whole : SideLaws → (v z : Image) (r : Stored) (c : Cause) (place : ℕ) → 3 ≤ v.count → v.count ≤ 262144 → PairReads r v z → ¬ IsSpent r.volume → FailsVolume v c place → ⊥
+reads_whole laws v z r c place many few reads unspent fails = unspent (laws.volume_whole v r.volume c place many few reads.volume_reads fails).1
+
+-- a pair is read as one
+pub one_pair : SideLaws → (v z : Image) (r q : Stored) → v.count ≤ 262144 → z.count ≤ 262144 → PairReads r v z → PairReads q v z → r ≡ q
+one_pair laws v z r q few small reads also =
+    same_stored r q (laws.volume_is_one v r.volume q.volume few reads.volume_reads also.volume_reads) (laws.store_is_one z r.store q.store small reads.store_reads also.store_reads)
+
+module _ (laws : SideLaws) where
+  pub one_ran : (v z : Image) (lines : List Line) (a b : Status) (x y : List ℕ) → v.count ≤ 262144 → z.count ≤ 262144 → Ran v z lines a x → Ran v z lines b y → (a ≡ b) × (x ≡ y)
+  one_ran v z lines a b x y few small (bad_volume {c} {place} many f) (bad_volume {c = d} {place = other} more g) =
+      let same = laws.volume_fails v d c other place few g f in
       (ap (λ (k : Cause). status.BadImage OfVolume k place) same.0 ∙ ap (status.BadImage OfVolume d) same.1, ap (λ (k : Cause). bad_image_line OfVolume k place) same.0 ∙ ap (bad_image_line OfVolume d) same.1)
-  one_ran v z lines a b x y few (bad_image {c} {place} many f) (replies {r} reads unspent) = absurd (unspent (whole v r.volume c place many few reads.volume_reads f).1)
-  one_ran v z lines a b x y few (replies {r} reads unspent) (bad_image {c} {place} many f) = absurd (unspent (whole v r.volume c place many few reads.volume_reads f).1)
-  one_ran v z lines a b x y few (replies {r} reads unspent) (replies {r = q} also left) =
-      let same : r ≡ q = same_stored r q (one_side v r.volume q.volume few reads.volume_reads also.volume_reads) in
-      (ap (λ (k : Stored). done_status (any_refused (opened v.count k) lines)) same, ap (λ (k : Stored). said_of (opened v.count k) lines) same)
+  one_ran v z lines a b x y few small (bad_volume {c} {place} many f) (bad_store can more g) = absurd (opens_whole laws v c place many few can f)
+  one_ran v z lines a b x y few small (bad_volume {c} {place} many f) (replies {r} reads unspent) = absurd (reads_whole laws v z r c place many few reads unspent f)
+  one_ran v z lines a b x y few small (bad_store can more g) (bad_volume {c} {place} many f) = absurd (opens_whole laws v c place many few can f)
+  one_ran v z lines a b x y few small (bad_store {c} {place} can many f) (bad_store {c = d} {place = other} also more g) =
+      let same = laws.store_fails z d c other place small g f in
+      (ap (λ (k : Cause). status.BadImage OfStore k place) same.0 ∙ ap (status.BadImage OfStore d) same.1, ap (λ (k : Cause). bad_image_line OfStore k place) same.0 ∙ ap (bad_image_line OfStore d) same.1)
+  one_ran v z lines a b x y few small (bad_store {c} {place} can many f) (replies {r} reads unspent) = absurd (laws.store_whole z r.store c place many small reads.store_reads f)
+  one_ran v z lines a b x y few small (replies {r} reads unspent) (bad_volume {c} {place} many f) = absurd (reads_whole laws v z r c place many few reads unspent f)
+  one_ran v z lines a b x y few small (replies {r} reads unspent) (bad_store {c} {place} can many f) = absurd (laws.store_whole z r.store c place many small reads.store_reads f)
+  one_ran v z lines a b x y few small (replies {r} reads unspent) (replies {r = q} also left) =
+      let same : r ≡ q = one_pair laws v z r q few small reads also in
+      (ap (λ (k : Stored). done_status (any_refused (opened v.count z.count k) lines)) same, ap (λ (k : Stored). said_of (opened v.count z.count k) lines) same)
 
 -- ---- runs
 
@@ -79,11 +110,12 @@ module _ (one_meaning : OneMeaning) (bad_is_outside : BadIsOutside) (one_first_b
       subst (λ (u : Image). Ran u z lines ended text) (sym same.1)
       (subst (λ (u : Image). Ran w u lines ended text) (sym same.2) (subst (λ (ls : List Line). Ran w y ls ended text) (sym same.0) ran))
 
-  module _ (one_side : OneSide) (failure : OneVolumeFailure) (whole : ReadsOrFailsVolume) (small : AreSmall outside) where
+  module _ (laws : SideLaws) (small : AreSmall outside) where
     started : {lines : List Line} {v z : Image} (a b : Status) (x y : List ℕ) → IsStart words outside lines v z → Ran v z lines a x → Outcome words outside b y → (a ≡ b) × (x ≡ y)
     started {lines} {v} {z} a b x y start ran other =
         let few : v.count ≤ 262144 = subst (λ (u : Image). u.count ≤ 262144) (sym start.volume_is) (image_small words start.volume start.store start.path start.create outside small start.command) in
-        one_ran one_side failure whole v z lines a b x y few ran (starts_run lines v z b y start other)
+        let low : z.count ≤ 262144 = subst (λ (u : Image). u.count ≤ 262144) (sym start.store_is) (store_small words start.volume start.store start.path start.create outside small start.command) in
+        one_ran laws v z lines a b x y few low ran (starts_run lines v z b y start other)
 
     pub one_outcome : (a b : Status) (x y : List ℕ) → Outcome words outside a x → Outcome words outside b y → (a ≡ b) × (x ≡ y)
     one_outcome a b x y (usage none) (usage more) = (refl, refl)

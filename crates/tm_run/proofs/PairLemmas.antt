@@ -123,3 +123,6 @@ made_small rest (Some blocks) h = omega (arith, h.is.most)
 
 pub image_small : (words : List (List ℕ)) (v z p : List ℕ) (create : Option ℕ) (s : Outside) → AreSmall s → IsCommand words v z p create → (found v create s).count ≤ 262144
 image_small words v z p create s small command = found_small v create s small (made_small command.rest create command.end)
+
+pub store_small : (words : List (List ℕ)) (v z p : List ℕ) (create : Option ℕ) (s : Outside) → AreSmall s → IsCommand words v z p create → (found z create s).count ≤ 262144
+store_small words v z p create s small command = found_small z create s small (made_small command.rest create command.end)

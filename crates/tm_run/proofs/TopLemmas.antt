@@ -6,9 +6,6 @@ use Rattle.tm_text.specs.Script.{IsFirstBad}
 use Rattle.tm_world.specs.Disk.{Disk, Image}
 use Rattle.tm_world.specs.Outside.{Place, made}
 use Rattle.tm_world.specs.Torn.{as_read}
-use Rattle.tm_machine.specs.States.{kept, opened}
-use Rattle.tm_machine.specs.Stops.{LeavesPair, PairReads}
-use Rattle.tm_machine.specs.Runs.{state_after}
 use Rattle.tm_run.specs.declared.status.Status.{Status}
 use Rattle.tm_run.specs.declared.status.Status.TheVariants as status
 use Rattle.tm_run.specs.declared.top.ScriptEnd.{ScriptEnd}
@@ -124,8 +121,8 @@ run_prefix starts words old mid new lines v z reading start says status text out
     prefix_after text old mid new reading.said (says status text (starts words old lines v z status text start outcome))
 
 pub run_left : OneStart → (words : List (List ℕ)) (old new : Outside) (lines : List Line) (v z : Image) → IsStart words old lines v z → LeavesLast v z lines new → LeavesEnd words old new
-run_left one words old new lines v z start left others w y also r reads =
+run_left one words old new lines v z start left others w y also =
     let same = one words old lines others v w y z start also in
-    subst (λ (u : Image). LeavesPair (kept (state_after (opened u.count r) others)) new) same.1
-    (subst (λ (ls : List Line). LeavesPair (kept (state_after (opened v.count r) ls)) new) same.0
-    (left r (subst (λ (u : Image). PairReads r u z) (sym same.1) (subst (λ (u : Image). PairReads r w u) (sym same.2) reads))))
+    subst (λ (u : Image). LeavesLast u y others new) same.1
+    (subst (λ (u : Image). LeavesLast v u others new) same.2
+    (subst (λ (ls : List Line). LeavesLast v z ls new) same.0 left))

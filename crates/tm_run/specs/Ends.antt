@@ -59,7 +59,7 @@ pub record GaveRan (v z : Image) (lines : List Line) (old new : Outside) (ended 
 
 -- whatever pair a stop leaves reads as what is kept of the state after all lines
 abbrev pub LeavesLast : Image → Image → List Line → Outside → Type 0
-LeavesLast v z lines now = (r : Stored) → PairReads r v z → LeavesPair (kept (state_after (opened v.count r) lines)) now
+LeavesLast v z lines now = (r : Stored) → PairReads r v z → LeavesPair (kept (state_after (opened v.count z.count r) lines)) now
 
 -- the same of a run
 abbrev pub LeavesEnd : List (List ℕ) → Outside → Outside → Type 0

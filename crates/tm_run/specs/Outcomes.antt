@@ -10,9 +10,11 @@ use Rattle.tm_world.specs.declared.cause.Cause.{Cause}
 use Rattle.tm_world.specs.declared.cause.Cause.TheVariants as cause
 use Rattle.tm_text.specs.declared.line.Line.{Line}
 use Rattle.tm_text.specs.Script.{IsScript, IsFirstBad}
+use Rattle.tm_store_records.specs.States.{StoreFails}
 use Rattle.tm_volume.specs.Answers.{FailsVolume, IsSpent}
+use Rattle.tm_machine.specs.Fitting.{FitsAll}
 use Rattle.tm_machine.specs.States.{Stored, opened}
-use Rattle.tm_machine.specs.Stops.{PairReads}
+use Rattle.tm_machine.specs.Stops.{CanOpen, PairReads}
 use Rattle.tm_machine.specs.Runs.{said_of, any_refused}
 use Rattle.tm_run.specs.declared.status.Status.{Status}
 use Rattle.tm_run.specs.declared.status.Status.TheVariants as status
@@ -59,10 +61,12 @@ done_status true = status.DoneRefused
 -- the lines, over these images, give this status and say this
 pub data Ran (v z : Image) (lines : List Line) : Status → List ℕ → Type 0 where
   -- a check of the volume's image fails; the store's is not read
-  bad_image : {c : Cause} {place : ℕ} → 3 ≤ v.count → FailsVolume v c place → Ran v z lines (status.BadImage side.Volume c place) (bad_image_line side.Volume c place)
+  bad_volume : {c : Cause} {place : ℕ} → 3 ≤ v.count → FailsVolume v c place → Ran v z lines (status.BadImage side.Volume c place) (bad_image_line side.Volume c place)
+  -- the volume can be opened, and a check of the store's image fails
+  bad_store : {c : Cause} {place : ℕ} → CanOpen v → 3 ≤ z.count → StoreFails z c place → Ran v z lines (status.BadImage side.Store c place) (bad_image_line side.Store c place)
   -- the pair reads as r, and the plain machine replies to the lines from the state that opening makes of it
   replies : {r : Stored} → PairReads r v z → ¬ IsSpent r.volume
-      → Ran v z lines (done_status (any_refused (opened v.count r) lines)) (said_of (opened v.count r) lines)
+      → Ran v z lines (done_status (any_refused (opened v.count z.count r) lines)) (said_of (opened v.count z.count r) lines)
 
 -- ---- a run
 
@@ -108,3 +112,13 @@ OneStart = (words : List (List ℕ)) (outside : Outside) (lines others : List Li
 abbrev pub StartsRun : Type 0
 StartsRun = (words : List (List ℕ)) (outside : Outside) (lines : List Line) (v z : Image) (ended : Status) (text : List ℕ)
     → IsStart words outside lines v z → Outcome words outside ended text → Ran v z lines ended text
+
+-- ---- fit
+
+-- the pair fits where a backup needs it: then stamps tell what is as it was
+abbrev pub FitsLines : Image → Image → List Line → Type 0
+FitsLines v z lines = (r : Stored) → PairReads r v z → FitsAll (opened v.count z.count r) lines
+
+-- the pair that some words name does, for the lines that they name
+abbrev pub FitsRun : List (List ℕ) → Outside → Type 0
+FitsRun words outside = (lines : List Line) (v z : Image) → IsStart words outside lines v z → FitsLines v z lines

@@ -2,6 +2,7 @@
 ghost use Rattle.std.specs.Prelude.{◌≡◌, ◌≢◌, ◌≤◌, ℕ, List, All};
 ghost use Rattle.std.specs.Option.{ForSome};
 ghost use Rattle.tm_base.specs.declared.refused.Side.{Side as Named};
+ghost use Rattle.tm_machine.specs.Fitting.{FitsAll};
 ghost use Rattle.tm_machine.specs.Runs.{any_refused, said_of, state_after};
 ghost use Rattle.tm_machine.specs.Session.{IsOpen, IsSynced, Standing, part_of, state_on};
 ghost use Rattle.tm_machine.specs.States.{kept};
@@ -12,9 +13,9 @@ ghost use Rattle.tm_world.specs.Faults.{NeverLess, Rose};
 ghost use Rattle.tm_world.specs.Log.{now};
 ghost use Rattle.tm_world.specs.Torn.{as_read};
 ghost use Rattle.tm_world.specs.declared.world.Part.{Part};
-ghost use Rattle.tm_world.specs.declared.world.Side.TheVariants.{Volume as VolumeSide};
+ghost use Rattle.tm_world.specs.declared.world.Side.TheVariants.{Volume as VolumeSide, Store as StoreSide};
 ghost use Rattle.tm_run.specs.Ends.{GaveRan, IsDone, IsWhole, LeavesLast, SaysAll, SaysPrefix};
-ghost use Rattle.tm_run.specs.Outcomes.{Ran, done_status};
+ghost use Rattle.tm_run.specs.Outcomes.{FitsLines, Ran, done_status};
 ghost use Rattle.tm_run.specs.Pairs.{IsPair, found};
 ghost use Rattle.tm_run.specs.Readings.{IsEndOfLines};
 ghost use Rattle.tm_run.specs.declared.status.Status.{Status};
@@ -26,8 +27,9 @@ use crate::pair::open_pair;
 use crate::status::Status;
 use std::alloc::Global;
 use tm_machine::{LineEnd, Session, SessionError, session_is_left};
+use tm_store::laws::{sides_read_as_one, store_fails_once};
 use tm_text::Lines;
-use tm_volume::laws::volume_fails_once;
+use tm_volume::laws::{sides_read_as_one as volume_sides_read_as_one, volume_fails_once};
 use tm_world::World;
 
 // The status of a script that was run to its end.
@@ -51,10 +53,10 @@ fn run_session<W: World>(
     requires lines { All IsValidLine lines.now }
     requires open { IsOpen session.old (W.blocks world.old) }
     requires standing { W.told → Standing session.old (now (W.log world.old)) }
-    ensures whole { W.told → IsWhole result → result ≡ done_status (any_refused (state_on session.old (now (W.log world.old))) lines.now) }
-    ensures said { W.told → IsWhole result → SaysAll (said_of (state_on session.old (now (W.log world.old))) lines.now) (now (W.log world.old)) (now (W.log world.new)) }
-    ensures cut { W.told → SaysPrefix (said_of (state_on session.old (now (W.log world.old))) lines.now) (now (W.log world.old)) (now (W.log world.new)) }
-    ensures left { W.told → IsDone result → LeavesPair (kept (state_after (state_on session.old (now (W.log world.old))) lines.now)) (now (W.log world.new)) }
+    ensures whole { W.told → FitsAll (state_on session.old (now (W.log world.old))) lines.now → IsWhole result → result ≡ done_status (any_refused (state_on session.old (now (W.log world.old))) lines.now) }
+    ensures said { W.told → FitsAll (state_on session.old (now (W.log world.old))) lines.now → IsWhole result → SaysAll (said_of (state_on session.old (now (W.log world.old))) lines.now) (now (W.log world.old)) (now (W.log world.new)) }
+    ensures cut { W.told → FitsAll (state_on session.old (now (W.log world.old))) lines.now → SaysPrefix (said_of (state_on session.old (now (W.log world.old))) lines.now) (now (W.log world.old)) (now (W.log world.new)) }
+    ensures left { W.told → FitsAll (state_on session.old (now (W.log world.old))) lines.now → IsDone result → LeavesPair (kept (state_after (state_on session.old (now (W.log world.old))) lines.now)) (now (W.log world.new)) }
     ensures ends { IsEndOfLines result }
     ensures never_less { NeverLess (W.faults world.old) (W.faults world.new) }
     ensures fault { result ≡ Status.OutFault → Rose (W.faults world.old Part.Out) (W.faults world.new Part.Out) }
@@ -84,18 +86,23 @@ fn run_images<W: World>(
 ) -> Status
     requires count { W.blocks world.old VolumeSide ≡ volume_blocks }
     requires small { volume_blocks ≤ 262144 }
+    requires store_count { W.blocks world.old StoreSide ≡ store_blocks }
+    requires store_small { store_blocks ≤ 262144 }
     requires settled { W.told → IsSynced (now (W.log world.old)) }
     requires lines { All IsValidLine lines.now }
-    ensures outcome { W.told → (v z : Image) → IsPair v z (now (W.log world.old)) → IsWhole result → GaveRan v z lines.now (now (W.log world.old)) (now (W.log world.new)) result }
-    ensures prefix { W.told → (v z : Image) → IsPair v z (now (W.log world.old)) → (status : Status) (text : List ℕ) → Ran v z lines.now status text
+    ensures outcome { W.told → (v z : Image) → IsPair v z (now (W.log world.old)) → FitsLines v z lines.now → IsWhole result → GaveRan v z lines.now (now (W.log world.old)) (now (W.log world.new)) result }
+    ensures prefix { W.told → (v z : Image) → IsPair v z (now (W.log world.old)) → FitsLines v z lines.now → (status : Status) (text : List ℕ) → Ran v z lines.now status text
         → SaysPrefix text (now (W.log world.old)) (now (W.log world.new)) }
-    ensures left { W.told → (v z : Image) → IsPair v z (now (W.log world.old)) → IsDone result → LeavesLast v z lines.now (now (W.log world.new)) }
+    ensures left { W.told → (v z : Image) → IsPair v z (now (W.log world.old)) → FitsLines v z lines.now → IsDone result → LeavesLast v z lines.now (now (W.log world.new)) }
     ensures ends { IsEndOfLines result }
     ensures never_less { NeverLess (W.faults world.old) (W.faults world.new) }
     ensures fault { result ≡ Status.OutFault → Rose (W.faults world.old Part.Out) (W.faults world.new Part.Out) }
     ensures device { (side : Named) → result ≡ Status.Device side → Rose (W.faults world.old (part_of side)) (W.faults world.new (part_of side)) }
 {
+    volume_sides_read_as_one();
     volume_fails_once();
+    sides_read_as_one();
+    store_fails_once();
     match Session::load(alloc, world, volume_blocks, store_blocks) {
         Ok(mut session) => run_session(alloc, world, &mut session, lines),
         Err(SessionError::Bad { side, cause, place }) => {
@@ -116,11 +123,14 @@ pub(crate) fn run_command<W: World>(
     requires create { ForSome command.create (λ n. (1 ≤ n) × (n ≤ 262144)) }
     requires differ { command.volume.now ≢ command.store.now }
     requires lines { All IsValidLine lines.now }
-    ensures outcome { W.told → IsWhole result → GaveRan (as_read (found command.entry.volume.now command.entry.create (now (W.log world.old))))
+    ensures outcome { W.told → FitsLines (as_read (found command.entry.volume.now command.entry.create (now (W.log world.old))))
+        (as_read (found command.entry.store.now command.entry.create (now (W.log world.old)))) lines.now → IsWhole result → GaveRan (as_read (found command.entry.volume.now command.entry.create (now (W.log world.old))))
         (as_read (found command.entry.store.now command.entry.create (now (W.log world.old)))) lines.now (now (W.log world.old)) (now (W.log world.new)) result }
-    ensures prefix { W.told → (status : Status) (text : List ℕ) → Ran (as_read (found command.entry.volume.now command.entry.create (now (W.log world.old))))
+    ensures prefix { W.told → FitsLines (as_read (found command.entry.volume.now command.entry.create (now (W.log world.old))))
+        (as_read (found command.entry.store.now command.entry.create (now (W.log world.old)))) lines.now → (status : Status) (text : List ℕ) → Ran (as_read (found command.entry.volume.now command.entry.create (now (W.log world.old))))
         (as_read (found command.entry.store.now command.entry.create (now (W.log world.old)))) lines.now status text → SaysPrefix text (now (W.log world.old)) (now (W.log world.new)) }
-    ensures left { W.told → IsDone result → LeavesLast (as_read (found command.entry.volume.now command.entry.create (now (W.log world.old))))
+    ensures left { W.told → FitsLines (as_read (found command.entry.volume.now command.entry.create (now (W.log world.old))))
+        (as_read (found command.entry.store.now command.entry.create (now (W.log world.old)))) lines.now → IsDone result → LeavesLast (as_read (found command.entry.volume.now command.entry.create (now (W.log world.old))))
         (as_read (found command.entry.store.now command.entry.create (now (W.log world.old)))) lines.now (now (W.log world.new)) }
     ensures ends { IsEndOfLines result }
     ensures never_less { NeverLess (W.faults world.old) (W.faults world.new) }

@@ -1,8 +1,9 @@
 //! The law of outcomes.
 ghost use Rattle.tm_run.specs.Outcomes.{OneOutcome, OneStart, StartsRun};
 
+use tm_store::laws::{sides_read_as_one, store_fails_once};
 use tm_text::{bad_is_outside, one_first_bad_line, one_meaning};
-use tm_volume::laws::{sides_read_as_one, volume_fails_once};
+use tm_volume::laws::{sides_read_as_one as volume_sides_read_as_one, volume_fails_once};
 
 /// Some words and what stands outside give one outcome at most.
 pub fn one_outcome()
@@ -13,6 +14,8 @@ pub fn one_outcome()
     one_meaning();
     bad_is_outside();
     one_first_bad_line();
-    sides_read_as_one();
+    volume_sides_read_as_one();
     volume_fails_once();
+    sides_read_as_one();
+    store_fails_once();
 }

@@ -1,6 +1,7 @@
 //! The lines of a script, one after the other.
 ghost use Rattle.std.specs.Prelude.{◌≡◌, IfOk, OnOk, Err, All, is_some};
 ghost use Rattle.tm_base.specs.declared.refused.Side.{Side as Named};
+ghost use Rattle.tm_machine.specs.Fitting.{FitsAll, FitsFor};
 ghost use Rattle.tm_machine.specs.Session.{IsOpen, Standing, part_of, state_on};
 ghost use Rattle.tm_text.specs.Bounds.{IsValidLine};
 ghost use Rattle.tm_world.specs.declared.world.Part.{Part};
@@ -60,10 +61,10 @@ fn run_line<W: World>(
     requires line { IsValidLine line.now }
     requires open { IsOpen session.old (W.blocks world.old) }
     requires standing { W.told → Standing session.old (now (W.log world.old)) }
-    ensures refused { W.told → IfOk result (λ refused. refused ≡ is_some (refusal (state_on session.old (now (W.log world.old))) line.now)) }
-    ensures state { W.told → OnOk result (state_on session.new (now (W.log world.new)) ≡ step (state_on session.old (now (W.log world.old))) line.now) }
-    ensures said { W.told → OnOk result (SaysAll (reply_text (reply (state_on session.old (now (W.log world.old))) line.now)) (now (W.log world.old)) (now (W.log world.new))) }
-    ensures cut { W.told → SaysPrefix (reply_text (reply (state_on session.old (now (W.log world.old))) line.now)) (now (W.log world.old)) (now (W.log world.new)) }
+    ensures refused { W.told → FitsFor (state_on session.old (now (W.log world.old))) line.now → IfOk result (λ refused. refused ≡ is_some (refusal (state_on session.old (now (W.log world.old))) line.now)) }
+    ensures state { W.told → FitsFor (state_on session.old (now (W.log world.old))) line.now → OnOk result (state_on session.new (now (W.log world.new)) ≡ step (state_on session.old (now (W.log world.old))) line.now) }
+    ensures said { W.told → FitsFor (state_on session.old (now (W.log world.old))) line.now → OnOk result (SaysAll (reply_text (reply (state_on session.old (now (W.log world.old))) line.now)) (now (W.log world.old)) (now (W.log world.new))) }
+    ensures cut { W.told → FitsFor (state_on session.old (now (W.log world.old))) line.now → SaysPrefix (reply_text (reply (state_on session.old (now (W.log world.old))) line.now)) (now (W.log world.old)) (now (W.log world.new)) }
     ensures open { OnOk result (IsOpen session.new (W.blocks world.new)) }
     ensures standing { W.told → OnOk result (Standing session.new (now (W.log world.new))) }
     ensures blocks { W.blocks world.new ≡ W.blocks world.old }
@@ -94,10 +95,10 @@ pub(crate) fn run_lines<W: World>(
     requires lines { All IsValidLine lines.now }
     requires open { IsOpen session.old (W.blocks world.old) }
     requires standing { W.told → Standing session.old (now (W.log world.old)) }
-    ensures refused { W.told → IfOk result (λ refused. refused ≡ any_refused (state_on session.old (now (W.log world.old))) lines.now) }
-    ensures state { W.told → OnOk result (state_on session.new (now (W.log world.new)) ≡ state_after (state_on session.old (now (W.log world.old))) lines.now) }
-    ensures said { W.told → OnOk result (SaysAll (said_of (state_on session.old (now (W.log world.old))) lines.now) (now (W.log world.old)) (now (W.log world.new))) }
-    ensures cut { W.told → SaysPrefix (said_of (state_on session.old (now (W.log world.old))) lines.now) (now (W.log world.old)) (now (W.log world.new)) }
+    ensures refused { W.told → FitsAll (state_on session.old (now (W.log world.old))) lines.now → IfOk result (λ refused. refused ≡ any_refused (state_on session.old (now (W.log world.old))) lines.now) }
+    ensures state { W.told → FitsAll (state_on session.old (now (W.log world.old))) lines.now → OnOk result (state_on session.new (now (W.log world.new)) ≡ state_after (state_on session.old (now (W.log world.old))) lines.now) }
+    ensures said { W.told → FitsAll (state_on session.old (now (W.log world.old))) lines.now → OnOk result (SaysAll (said_of (state_on session.old (now (W.log world.old))) lines.now) (now (W.log world.old)) (now (W.log world.new))) }
+    ensures cut { W.told → FitsAll (state_on session.old (now (W.log world.old))) lines.now → SaysPrefix (said_of (state_on session.old (now (W.log world.old))) lines.now) (now (W.log world.old)) (now (W.log world.new)) }
     ensures open { OnOk result (IsOpen session.new (W.blocks world.new)) }
     ensures standing { W.told → OnOk result (Standing session.new (now (W.log world.new))) }
     ensures blocks { W.blocks world.new ≡ W.blocks world.old }

@@ -7,7 +7,7 @@ ghost use Rattle.tm_world.specs.Disk.{Image};
 ghost use Rattle.tm_world.specs.Faults.{NeverLess, Rose};
 ghost use Rattle.tm_world.specs.Log.{now};
 ghost use Rattle.tm_world.specs.Torn.{as_read};
-ghost use Rattle.tm_world.specs.declared.world.Side.TheVariants.{Volume as VolumeSide};
+ghost use Rattle.tm_world.specs.declared.world.Side.TheVariants.{Volume as VolumeSide, Store as StoreSide};
 ghost use Rattle.tm_run.specs.Pairs.{IsPair, found};
 
 use crate::command::Command;
@@ -21,7 +21,7 @@ fn attach_pair<W: World>(world: &mut W, command: Command<'_>) -> Result<(u32, u3
     ensures pair { W.told → OnOk result (IsPair (as_read (found command.entry.volume.now command.entry.create (now (W.log world.old))))
         (as_read (found command.entry.store.now command.entry.create (now (W.log world.old)))) (now (W.log world.new))) }
     ensures said { W.told → (now (W.log world.new)).said ≡ (now (W.log world.old)).said }
-    ensures count { IfOk result (λ n. (W.blocks world.new VolumeSide ≡ n.0) × (n.0 ≤ 262144)) }
+    ensures count { IfOk result (λ n. (W.blocks world.new VolumeSide ≡ n.0) × (n.0 ≤ 262144) × (W.blocks world.new StoreSide ≡ n.1) × (n.1 ≤ 262144)) }
     ensures never_less { NeverLess (W.faults world.old) (W.faults world.new) }
     ensures fault { (side : Named) → result ≡ Err side → Rose (W.faults world.old (part_of side)) (W.faults world.new (part_of side)) }
 {
@@ -63,7 +63,7 @@ pub(crate) fn open_pair<W: World>(world: &mut W, command: Command<'_>) -> Result
         (as_read (found command.entry.store.now command.entry.create (now (W.log world.old)))) (now (W.log world.new))) }
     ensures synced { W.told → OnOk result (IsSynced (now (W.log world.new))) }
     ensures said { W.told → (now (W.log world.new)).said ≡ (now (W.log world.old)).said }
-    ensures count { IfOk result (λ n. (W.blocks world.new VolumeSide ≡ n.0) × (n.0 ≤ 262144)) }
+    ensures count { IfOk result (λ n. (W.blocks world.new VolumeSide ≡ n.0) × (n.0 ≤ 262144) × (W.blocks world.new StoreSide ≡ n.1) × (n.1 ≤ 262144)) }
     ensures never_less { NeverLess (W.faults world.old) (W.faults world.new) }
     ensures fault { (side : Named) → result ≡ Err side → Rose (W.faults world.old (part_of side)) (W.faults world.new (part_of side)) }
 {

@@ -8,7 +8,7 @@ ghost use Rattle.tm_machine.specs.Session.{part_of};
 ghost use Rattle.tm_text.specs.Bounds.{IsValidLine};
 ghost use Rattle.tm_run.specs.Command.{texts, IsSomeCommand};
 ghost use Rattle.tm_run.specs.Scripts.{IsReading};
-ghost use Rattle.tm_run.specs.Outcomes.{Outcome};
+ghost use Rattle.tm_run.specs.Outcomes.{FitsRun, Outcome};
 ghost use Rattle.tm_run.specs.Readings.{ReadsLines};
 ghost use Rattle.tm_run.specs.Ends.{IsBefore, IsDone, IsWhole, LeavesEnd, SaysPrefix, GaveOutcome};
 ghost use Rattle.tm_run.specs.declared.status.Status.{Status};
@@ -36,15 +36,15 @@ const TOO_LONG: &str = "script too long\n";
 /// them, and then does line after line, each with its reply. The first cause met ends the run, and
 /// nothing more is called after a fault or want of memory (`docs/SCRIPT.md`, "The end of a run").
 pub fn run<W: World>(alloc: Global, words: &[String], world: &mut W) -> Status
-    // A run that is not cut short says what the plain machine says, or why an image is bad.
-    ensures outcome { W.told → IsWhole result → GaveOutcome (texts words.now) (now (W.log world.old)) (now (W.log world.new)) result }
+    // A run over a pair that fits says, if it is not cut short, what the plain machine says, or why an image is bad.
+    ensures outcome { W.told → FitsRun (texts words.now) (now (W.log world.old)) → IsWhole result → GaveOutcome (texts words.now) (now (W.log world.old)) (now (W.log world.new)) result }
 
     // A run that is cut short says a prefix of that.
-    ensures prefix { W.told → (status : Status) (text : List ℕ) → Outcome (texts words.now) (now (W.log world.old)) status text
+    ensures prefix { W.told → FitsRun (texts words.now) (now (W.log world.old)) → (status : Status) (text : List ℕ) → Outcome (texts words.now) (now (W.log world.old)) status text
         → SaysPrefix text (now (W.log world.old)) (now (W.log world.new)) }
 
     // Whatever a stop leaves after the last line reads as what is kept of the last state.
-    ensures left { W.told → IsDone result → LeavesEnd (texts words.now) (now (W.log world.old)) (now (W.log world.new)) }
+    ensures left { W.told → FitsRun (texts words.now) (now (W.log world.old)) → IsDone result → LeavesEnd (texts words.now) (now (W.log world.old)) (now (W.log world.new)) }
 
     // A run that ends before the images are attached leaves all images as they were.
     ensures images { W.told → IsBefore result → (now (W.log world.new)).stands ≡ (now (W.log world.old)).stands }

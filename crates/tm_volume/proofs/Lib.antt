@@ -50,3 +50,4 @@ pub mod Targeting
 pub mod Written
 pub mod Changed
 pub mod Refixing
+pub mod Bounding

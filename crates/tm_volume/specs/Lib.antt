@@ -17,3 +17,4 @@ pub mod Attributes
 pub mod Targets
 pub mod Writes
 pub mod Fixings
+pub mod Bounds

@@ -1,5 +1,10 @@
-use Rattle.tm_machine.proofs.LineLemmas.{rest_leaves}
+use Rattle.tm_machine.proofs.Resting.{AtRest, rest_leaves}
 use Rattle.tm_machine.proofs.laws.session_is_left.Goals as goal
 
 pub returns : goal.returns
-returns c = rest_leaves c.standing_volume_is_left.ensures c.blank_is_left.ensures
+returns c = rest_leaves (record {
+  volume_stands = c.standing_volume_is_left.ensures;
+  volume_blank = c.blank_is_left.ensures;
+  store_stands = c.held_reads.ensures;
+  store_blank = c.blank_is_left-2.ensures;
+})

@@ -1,6 +1,6 @@
-use Rattle.std.proofs.Common.{◌≡◌, map, take}
-use Rattle.tm_machine.specs.Queries.{path_row}
+use Rattle.std.proofs.Common.{◌≡◌, ◌++◌, map, take}
+use Rattle.tm_machine.specs.Queries.{held_paths}
 use Rattle.tm_machine.proofs.store.snapshot_paths.Given as goal
 
 abbrev pub invariant-loop-snapshot : goal.invariant-loop-snapshot
-invariant-loop-snapshot l = l.rows ≡ map (path_row l.store.machine) (take l.snapshot-index l.snapshots)
+invariant-loop-snapshot l = l.rows ≡ held_paths l.machine (take l.snapshot-index l.snapshots)

@@ -3,11 +3,13 @@ use Rattle.std.proofs.lemmas.List.Elements.{All-get_or}
 use Rattle.tm_text.specs.Bounds.{IsValidLine}
 use Rattle.tm_world.specs.Log.{now}
 use Rattle.tm_reply.specs.Replies.{reply_text}
+use Rattle.tm_machine.specs.Fitting.{FitsAll}
 use Rattle.tm_machine.specs.Session.{state_on}
+use Rattle.tm_machine.specs.States.{State}
 use Rattle.tm_machine.specs.Steps.{reply, step}
 use Rattle.tm_machine.specs.Runs.{said_of}
 use Rattle.tm_run.proofs.SayLemmas.{prefix_more, whole_more}
-use Rattle.tm_run.proofs.LoopLemmas.{said_more, refused_more, state_more}
+use Rattle.tm_run.proofs.LoopLemmas.{fits_more, said_more, refused_more, state_more}
 use Rattle.tm_run.proofs.lines.run_lines.Goals as goal
 
 pub run_line-requires-clause-line : goal.run_line-requires-clause-line
@@ -18,18 +20,19 @@ run_line-requires-clause-line g c =
     subst IsValidLine (sym c.line-item.is) (All-get_or IsValidLine c.args.lines.now i line low c.requires.lines)
 
 pub returns-in_err-refused-clause-cut : goal.returns-in_err-refused-clause-cut
-returns-in_err-refused-clause-cut g c told =
+returns-in_err-refused-clause-cut g c told fits =
     let start = now (g.W.World.log c.args.world.now) in
     let mid = now (g.W.World.log c.loop-line.world) in
     let s = state_on c.loop-line.session mid in
     let i = c.loop-line.line-index in
     let line = c.line-item.result in
     let low : i < length c.args.lines.now = omega arith in
+    let here = fits_more s c.args.lines.now i line low c.line-item.is (c.loop-line.invariant.fits told fits) in
     let more = said_more s (step s line) c.args.lines.now i line low c.line-item.is refl in
     prefix_more (said_of (state_on c.args.session.now start) c.args.lines.now) (reply_text (reply s line)) (said_of (step s line) (drop (i + 1) c.args.lines.now))
     start mid (now (g.W.World.log c.run_line.new.world))
-    (c.loop-line.invariant.cut told) (c.in_err-refused.ensures.cut told)
-    (c.loop-line.invariant.said told ∙ ap (λ (t : List ℕ). mid.said ++ t) more)
+    (c.loop-line.invariant.cut told fits) (c.in_err-refused.ensures.cut told here.0)
+    (c.loop-line.invariant.said told fits ∙ ap (λ (t : List ℕ). mid.said ++ t) more)
 
 pub loop-line-preserved : goal.loop-line-preserved
 loop-line-preserved g c =
@@ -44,15 +47,18 @@ loop-line-preserved g c =
     let whole = said_of (state_on c.args.session.now start) c.args.lines.now in
     let rest = said_of t (drop (i + 1) c.args.lines.now) in
     let inv = c.loop-line.invariant in
+    let here = λ (told : g.W.World.told) (fits : FitsAll (state_on c.args.session.now start) c.args.lines.now). fits_more s c.args.lines.now i line low c.line-item.is (inv.fits told fits) in
+    let after = λ (told : g.W.World.told) (fits : FitsAll (state_on c.args.session.now start) c.args.lines.now). c.in_ok-refused.ensures.state told (here told fits).0 in
     record {
       «open» = c.in_ok-refused.ensures.open;
       standing = c.in_ok-refused.ensures.standing;
-      refused = λ told. refused_more s t c.args.lines.now i line c.loop-line.refused c.in_ok-refused.field-0 _ low c.line-item.is (c.in_ok-refused.ensures.state told) (c.in_ok-refused.ensures.refused told) (inv.refused told);
-      state = λ told. inv.state told ∙ state_more s t c.args.lines.now i line low c.line-item.is (c.in_ok-refused.ensures.state told);
-      said = λ told. whole_more whole (reply_text (reply s line)) rest start mid end (c.in_ok-refused.ensures.said told)
-          (inv.said told ∙ ap (λ (u : List ℕ). mid.said ++ u) (said_more s t c.args.lines.now i line low c.line-item.is (c.in_ok-refused.ensures.state told)));
-      cut = λ told. prefix_more whole (reply_text (reply s line)) rest start mid end (inv.cut told) (c.in_ok-refused.ensures.cut told)
-          (inv.said told ∙ ap (λ (u : List ℕ). mid.said ++ u) (said_more s t c.args.lines.now i line low c.line-item.is (c.in_ok-refused.ensures.state told)));
+      refused = λ told fits. refused_more s t c.args.lines.now i line c.loop-line.refused c.in_ok-refused.field-0 _ low c.line-item.is (after told fits) (c.in_ok-refused.ensures.refused told (here told fits).0) (inv.refused told fits);
+      state = λ told fits. inv.state told fits ∙ state_more s t c.args.lines.now i line low c.line-item.is (after told fits);
+      said = λ told fits. whole_more whole (reply_text (reply s line)) rest start mid end (c.in_ok-refused.ensures.said told (here told fits).0)
+          (inv.said told fits ∙ ap (λ (u : List ℕ). mid.said ++ u) (said_more s t c.args.lines.now i line low c.line-item.is (after told fits)));
+      cut = λ told fits. prefix_more whole (reply_text (reply s line)) rest start mid end (inv.cut told fits) (c.in_ok-refused.ensures.cut told (here told fits).0)
+          (inv.said told fits ∙ ap (λ (u : List ℕ). mid.said ++ u) (said_more s t c.args.lines.now i line low c.line-item.is (after told fits)));
+      fits = λ told fits. subst (λ (x : State). FitsAll x (drop (i + 1) c.args.lines.now)) (sym (after told fits)) (here told fits).1;
       blocks = c.in_ok-refused.ensures.blocks ∙ inv.blocks;
       faults = λ part. omega (arith, c.in_ok-refused.ensures.never_less part, inv.faults part);
     }

@@ -11,61 +11,61 @@ use Rattle.tm_run.proofs.TopLemmas.{same_outside, gave, says_a_prefix, no_fault,
 use Rattle.tm_run.proofs.top.run.Goals as goal
 
 pub returns-in_default-clause-outcome : goal.returns-in_default-clause-outcome
-returns-in_default-clause-outcome g c told whole =
+returns-in_default-clause-outcome g c told fits whole =
     gave (texts c.args.words.now) _ _ _ _ _ _ (same_outside _) (usage c.in_default.ensures.none) (ends_well _ _ c.say_last.ensures.status whole)
     (c.say_last.ensures.said told (no_fault _ whole))
 
 pub returns-in_default-clause-prefix : goal.returns-in_default-clause-prefix
-returns-in_default-clause-prefix g c told =
+returns-in_default-clause-prefix g c told fits =
     says_a_prefix c.one_outcome.ensures.one (texts c.args.words.now) _ _ _ _ _ (g.met.W.World.small told c.args.world.now) (same_outside _) (usage c.in_default.ensures.none) (c.say_last.ensures.cut told)
 
 pub returns-in_default-clause-left : goal.returns-in_default-clause-left
-returns-in_default-clause-left g c told done = not_done _ _ (λ h. h) c.say_last.ensures.status done
+returns-in_default-clause-left g c told fits done = not_done _ _ (λ h. h) c.say_last.ensures.status done
 
 pub returns-in-Ok-clause-outcome : goal.returns-in-Ok-clause-outcome
-returns-in-Ok-clause-outcome g c told whole =
+returns-in-Ok-clause-outcome g c told fits whole =
     let old = now (g.W.World.log c.args.world.now) in
     let mid = now (g.W.World.log c.read_lines.new.world) in
     let command = c.in-Some.command in
     let start = start_of (texts c.args.words.now) old mid command.volume.now command.store.now command.script.now command.create c.in-Ok.lines (c.read_lines.ensures.reading told) c.in-Some.ensures.some (c.in-Ok.ensures.lines told) in
     gave_run (texts c.args.words.now) old mid (now (g.W.World.log c.run_command.new.world)) c.in-Ok.lines (as_read (found command.volume.now command.create mid)) (as_read (found command.store.now command.create mid))
-    c.run_command.result (c.read_lines.ensures.reading told) start (c.run_command.ensures.outcome told whole)
+    c.run_command.result (c.read_lines.ensures.reading told) start (c.run_command.ensures.outcome told (fits c.in-Ok.lines _ _ start) whole)
 
 pub returns-in-Ok-clause-prefix : goal.returns-in-Ok-clause-prefix
-returns-in-Ok-clause-prefix g c told =
+returns-in-Ok-clause-prefix g c told fits =
     let old = now (g.W.World.log c.args.world.now) in
     let mid = now (g.W.World.log c.read_lines.new.world) in
     let command = c.in-Some.command in
     let start = start_of (texts c.args.words.now) old mid command.volume.now command.store.now command.script.now command.create c.in-Ok.lines (c.read_lines.ensures.reading told) c.in-Some.ensures.some (c.in-Ok.ensures.lines told) in
     run_prefix c.one_outcome.ensures.run (texts c.args.words.now) old mid (now (g.W.World.log c.run_command.new.world)) c.in-Ok.lines (as_read (found command.volume.now command.create mid))
-    (as_read (found command.store.now command.create mid)) (c.read_lines.ensures.reading told) start (c.run_command.ensures.prefix told)
+    (as_read (found command.store.now command.create mid)) (c.read_lines.ensures.reading told) start (c.run_command.ensures.prefix told (fits c.in-Ok.lines _ _ start))
 
 pub returns-in-Ok-clause-left : goal.returns-in-Ok-clause-left
-returns-in-Ok-clause-left g c told done =
+returns-in-Ok-clause-left g c told fits done =
     let old = now (g.W.World.log c.args.world.now) in
     let mid = now (g.W.World.log c.read_lines.new.world) in
     let command = c.in-Some.command in
     let start = start_of (texts c.args.words.now) old mid command.volume.now command.store.now command.script.now command.create c.in-Ok.lines (c.read_lines.ensures.reading told) c.in-Some.ensures.some (c.in-Ok.ensures.lines told) in
     run_left c.one_outcome.ensures.start (texts c.args.words.now) old (now (g.W.World.log c.run_command.new.world)) c.in-Ok.lines (as_read (found command.volume.now command.create mid))
-    (as_read (found command.store.now command.create mid)) start (c.run_command.ensures.left told done)
+    (as_read (found command.store.now command.create mid)) start (c.run_command.ensures.left told (fits c.in-Ok.lines _ _ start) done)
 
 pub returns-in-Err-TooLong-clause-outcome : goal.returns-in-Err-TooLong-clause-outcome
-returns-in-Err-TooLong-clause-outcome g c told whole =
+returns-in-Err-TooLong-clause-outcome g c told fits whole =
     gave _ _ _ _ _ _ _ (c.read_lines.ensures.reading told)
     (of_long _ _ _ _ _ _ _ c.in-Some.ensures.some c.in-Err-TooLong.field-0-is (c.in-Err-TooLong.ensures.lines told))
     (ends_well _ _ c.say_last-in-Err-TooLong.ensures.status whole) (c.say_last-in-Err-TooLong.ensures.said told (no_fault _ whole))
 
 pub returns-in-Err-TooLong-clause-prefix : goal.returns-in-Err-TooLong-clause-prefix
-returns-in-Err-TooLong-clause-prefix g c told =
+returns-in-Err-TooLong-clause-prefix g c told fits =
     says_a_prefix c.one_outcome.ensures.one _ _ _ _ _ _ (g.met.W.World.small told c.args.world.now) (c.read_lines.ensures.reading told)
     (of_long _ _ _ _ _ _ _ c.in-Some.ensures.some c.in-Err-TooLong.field-0-is (c.in-Err-TooLong.ensures.lines told))
     (c.say_last-in-Err-TooLong.ensures.cut told)
 
 pub returns-in-Err-TooLong-clause-left : goal.returns-in-Err-TooLong-clause-left
-returns-in-Err-TooLong-clause-left g c told done = not_done _ _ (λ h. h) c.say_last-in-Err-TooLong.ensures.status done
+returns-in-Err-TooLong-clause-left g c told fits done = not_done _ _ (λ h. h) c.say_last-in-Err-TooLong.ensures.status done
 
 pub returns-in-Err-BadLine-clause-outcome : goal.returns-in-Err-BadLine-clause-outcome
-returns-in-Err-BadLine-clause-outcome g c told whole =
+returns-in-Err-BadLine-clause-outcome g c told fits whole =
     let line = c.in-Err-BadLine.line in
     let ended = c.say_bad_line.result in
     let mid = now (g.W.World.log c.read_lines.new.world) in
@@ -77,7 +77,7 @@ returns-in-Err-BadLine-clause-outcome g c told whole =
     (of_bad _ _ _ _ _ _ _ line c.in-Some.ensures.some c.in-Err-BadLine.field-0-is (c.in-Err-BadLine.ensures.lines told)) is (said is)
 
 pub returns-in-Err-BadLine-clause-prefix : goal.returns-in-Err-BadLine-clause-prefix
-returns-in-Err-BadLine-clause-prefix g c told =
+returns-in-Err-BadLine-clause-prefix g c told fits =
     let line = c.in-Err-BadLine.line in
     let mid = now (g.W.World.log c.read_lines.new.world) in
     let new = now (g.W.World.log c.say_bad_line.new.world) in
@@ -86,7 +86,7 @@ returns-in-Err-BadLine-clause-prefix g c told =
     (subst (λ (n : ℕ). SaysPrefix (bad_line n) mid new) c.in-Err-BadLine.line-is (c.say_bad_line.ensures.cut told))
 
 pub returns-in-Err-BadLine-clause-left : goal.returns-in-Err-BadLine-clause-left
-returns-in-Err-BadLine-clause-left g c told done = not_done_as _ _ (λ h. h) c.say_bad_line.ensures.status done
+returns-in-Err-BadLine-clause-left g c told fits done = not_done_as _ _ (λ h. h) c.say_bad_line.ensures.status done
 
 pub returns-in-Ok-clause-images : goal.returns-in-Ok-clause-images
 returns-in-Ok-clause-images g c told before = not_before c.run_command.result c.run_command.ensures.ends before

@@ -1,14 +1,18 @@
-use Rattle.std.proofs.Common.{◌≡◌, Err, ap}
+use Rattle.std.proofs.Common.{◌≡◌, ℕ, false, Err, ap, sym, subst}
 use Rattle.tm_machine.specs.declared.session.SessionError.TheVariants.{Bad}
+use Rattle.tm_store.specs.Sides.{SideReads as StoreSideReads}
+use Rattle.tm_world.specs.Disk.{Disk}
 use Rattle.tm_world.specs.Log.{now}
+use Rattle.tm_world.specs.Torn.{as_read}
 use Rattle.tm_world.specs.declared.world.Side.TheVariants.{Volume as VolumeSide}
 use Rattle.tm_world.proofs.Pairs.{Runs-ends}
-use Rattle.tm_machine.proofs.OpeningLemmas.{opening_moments}
+use Rattle.tm_machine.specs.Stops.{CanOpenStore}
+use Rattle.tm_machine.proofs.OpeningLemmas.{bad_store, bad_volume, opened_standing, opened_state, opening_moments, opening_reads, other_side, said_as_before}
 use Rattle.tm_machine.proofs.session.Session.load.Goals as goal
 
 pub returns-in-Err-clause-any_moment : goal.returns-in-Err-clause-any_moment
 returns-in-Err-clause-any_moment g c told r reads =
-    opening_moments r (g.W.World.log c.args.world.now) (g.W.World.log c.open_volume.new.world) (c.requires.settled told).apart (c.open_volume.ensures.any_moment told r.volume reads.volume_reads)
+    opening_moments r (g.W.World.log c.args.world.now) (g.W.World.log c.open_volume.new.world) (c.requires.settled told) reads (c.open_volume.ensures.any_moment told r.volume reads.volume_reads)
 
 pub returns-in-Err-clause-said : goal.returns-in-Err-clause-said
 returns-in-Err-clause-said g c told =
@@ -17,18 +21,62 @@ returns-in-Err-clause-said g c told =
 pub returns-in-Err-clause-bad : goal.returns-in-Err-clause-bad
 returns-in-Err-clause-bad g c side cause place e =
     let same : c.in-Err.error ≡ Bad side cause place = cc in
-    c.in-Err.ensures.bad side cause place (ap Err same)
+    bad_volume side cause place c.args.volume_blocks c.args.store_blocks g.W.World.told (now (g.W.World.log c.args.world.now)) (c.in-Err.ensures.bad side cause place (ap Err same))
+
+pub open_store-requires-clause-stable : goal.open_store-requires-clause-stable
+open_store-requires-clause-stable g c told =
+    subst (λ (d : Disk). (b : ℕ) → d.loose b ≡ false)
+    (sym (other_side (g.W.World.log c.args.world.now) (g.W.World.log c.open_volume.new.world) (c.requires.settled told).apart (c.open_volume.ensures.alone told)))
+    (c.requires.settled told).store_stable
+
+pub returns-in-Err-open_store-clause-any_moment : goal.returns-in-Err-open_store-clause-any_moment
+returns-in-Err-open_store-clause-any_moment g c told r reads =
+    opening_reads r (g.W.World.log c.args.world.now) (g.W.World.log c.open_volume.new.world) (g.W.World.log c.open_store.new.world) (c.requires.settled told) reads
+    (c.open_volume.ensures.any_moment told r.volume reads.volume_reads) (c.open_store.ensures.steps told)
+
+pub returns-in-Err-open_store-clause-said : goal.returns-in-Err-open_store-clause-said
+returns-in-Err-open_store-clause-said g c told =
+    said_as_before (g.W.World.log c.args.world.now) (g.W.World.log c.open_volume.new.world) (g.W.World.log c.open_store.new.world) (c.requires.settled told).apart (c.open_volume.ensures.alone told) (c.open_store.ensures.steps told)
+
+pub returns-in-Err-open_store-clause-bad : goal.returns-in-Err-open_store-clause-bad
+returns-in-Err-open_store-clause-bad g c side cause place e =
+    let same : c.in-Err-open_store.error ≡ Bad side cause place = cc in
+    let old = g.W.World.log c.args.world.now in
+    let mid = g.W.World.log c.open_volume.new.world in
+    bad_store side cause place c.args.volume_blocks c.args.store_blocks g.W.World.told (now old) (now mid)
+    (λ told. other_side old mid (c.requires.settled told).apart (c.open_volume.ensures.alone told))
+    (λ told. c.in-Ok.ensures.opens told)
+    (c.in-Err-open_store.ensures.bad side cause place (ap Err same))
+
+pub returns-clause-state : goal.returns-clause-state
+returns-clause-state g c told r reads =
+    let old = g.W.World.log c.args.world.now in
+    let mid = g.W.World.log c.open_volume.new.world in
+    let new = g.W.World.log c.open_store.new.world in
+    opened_state c.args.volume_blocks c.args.store_blocks c.in-Ok.volume c.in-Ok-open_store.store r (now mid) (now new) (c.open_store.ensures.steps told).ends
+    (c.in-Ok.ensures.state told r.volume reads.volume_reads)
+    (c.in-Ok-open_store.ensures.state told r.store
+    (subst (λ (d : Disk). StoreSideReads (as_read d) r.store) (sym (other_side old mid (c.requires.settled told).apart (c.open_volume.ensures.alone told))) reads.store_reads))
 
 pub returns-clause-any_moment : goal.returns-clause-any_moment
 returns-clause-any_moment g c told r reads =
-    opening_moments r (g.W.World.log c.args.world.now) (g.W.World.log c.open_volume.new.world) (c.requires.settled told).apart (c.open_volume.ensures.any_moment told r.volume reads.volume_reads)
+    opening_reads r (g.W.World.log c.args.world.now) (g.W.World.log c.open_volume.new.world) (g.W.World.log c.open_store.new.world) (c.requires.settled told) reads
+    (c.open_volume.ensures.any_moment told r.volume reads.volume_reads) (c.open_store.ensures.steps told)
+
+pub returns-clause-opens : goal.returns-clause-opens
+returns-clause-opens g c told = (
+  c.in-Ok.ensures.opens told,
+  subst (λ (d : Disk). CanOpenStore (as_read d))
+      (other_side (g.W.World.log c.args.world.now) (g.W.World.log c.open_volume.new.world) (c.requires.settled told).apart (c.open_volume.ensures.alone told))
+      (c.in-Ok-open_store.ensures.opens told),
+)
 
 pub returns-clause-standing : goal.returns-clause-standing
-returns-clause-standing g c told = record {
-  apart = (Runs-ends VolumeSide _ (g.W.World.log c.args.world.now) (g.W.World.log c.open_volume.new.world) (c.requires.settled told).apart (c.open_volume.ensures.alone told)).apart;
-  volume_side = c.in-Ok.ensures.stands told;
-}
+returns-clause-standing g c told =
+    opened_standing c.args.volume_blocks c.args.store_blocks c.in-Ok.volume c.in-Ok-open_store.store
+    (g.W.World.log c.args.world.now) (g.W.World.log c.open_volume.new.world) (g.W.World.log c.open_store.new.world) (c.requires.settled told).apart (c.open_volume.ensures.alone told) (c.open_store.ensures.steps told)
+    (c.in-Ok.ensures.stands told) (c.in-Ok-open_store.ensures.stands told)
 
 pub returns-clause-said : goal.returns-clause-said
 returns-clause-said g c told =
-    (Runs-ends VolumeSide _ (g.W.World.log c.args.world.now) (g.W.World.log c.open_volume.new.world) (c.requires.settled told).apart (c.open_volume.ensures.alone told)).said
+    said_as_before (g.W.World.log c.args.world.now) (g.W.World.log c.open_volume.new.world) (g.W.World.log c.open_store.new.world) (c.requires.settled told).apart (c.open_volume.ensures.alone told) (c.open_store.ensures.steps told)

@@ -2,7 +2,7 @@ use Rattle.std.proofs.Common.{ap, sym, ◌∙◌}
 use Rattle.tm_world.specs.Outside.{disk}
 use Rattle.tm_world.specs.declared.world.Side.TheVariants.{Volume as VolumeSide}
 use Rattle.tm_machine.specs.Session.{Seen}
-use Rattle.tm_machine.proofs.LineLemmas.{list_answer}
+use Rattle.tm_machine.proofs.QueryLines.{list_answer}
 use Rattle.tm_machine.proofs.session.Session.ls.Goals as goal
 
 pub returns-clause-answer : goal.returns-clause-answer

@@ -1,0 +1,9 @@
+pub mod Walk
+pub mod Taking
+pub mod Answers
+pub mod Steps
+pub mod Shown
+pub mod Plans
+pub mod Growing
+pub mod Walking
+pub mod Laws

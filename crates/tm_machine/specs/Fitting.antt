@@ -1,0 +1,26 @@
+-- When the pair fits: stamps tell what is as it was.
+use Rattle.std.specs.Prelude.{ℕ, Option, List, [], ◌∷◌}
+use Rattle.std.specs.Option.{option_map}
+use Rattle.tm_text.specs.declared.line.Line.{Line}
+use Rattle.tm_text.specs.declared.line.Line.TheVariants as line
+use Rattle.tm_fit.specs.Fit.{Fits}
+use Rattle.tm_machine.specs.States.{State, store_in}
+use Rattle.tm_machine.specs.Steps.{step}
+
+-- the volume fits, and the store fits it
+abbrev pub PairFits : State → Type 0
+PairFits s = Fits (option_map (λ v. v.volume) s.volume) (store_in s.store)
+
+-- it fits where a line needs it: a backup
+abbrev pub FitsFor : State → Line → Type 0
+FitsFor s line.StartBackupBlock = PairFits s
+FitsFor s _ = Unit {0}
+
+-- and so on for each line in turn
+abbrev pub FitsAll : State → List Line → Type 0
+FitsAll s [] = Unit {0}
+FitsAll s (l ∷ lines) = FitsFor s l × FitsAll (step s l) lines
+
+-- a pair that fits stays so
+abbrev pub FitLasts : Type 0
+FitLasts = (s : State) (lines : List Line) → PairFits s → FitsAll s lines

@@ -1,0 +1,14 @@
+mod Lasts
+mod Unstaging
+mod Staging
+mod Blanking
+mod Loading
+mod Recorded
+mod Looking
+mod FindLemmas
+mod Tagging
+mod Tallying
+mod Filing
+mod Siding
+mod Failing
+mod Completing

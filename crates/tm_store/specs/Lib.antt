@@ -1,0 +1,5 @@
+pub mod Answers
+pub mod Finding
+pub mod Blank
+pub mod Sides
+pub mod Joining

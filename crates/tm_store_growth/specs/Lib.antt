@@ -1,0 +1,4 @@
+pub mod Puts
+pub mod Completing
+pub mod Growth
+pub mod Sizes

@@ -1,0 +1,129 @@
+-- What the spots say when a number comes to stand at one path more.
+use Rattle.std.proofs.Common.{◌≡◌, ◌≢◌, ◌⊎◌, inl, inr, ⊎_elim, ℕ, ◌≤◌, ◌==◌, Bool, true, false, cond, Option, Some, None, List, length, slice_get, nat_eq, refl, sym, ap, ◌∙◌, arith, subst}
+use Rattle.std.proofs.lemmas.Bool.{cases_eq}
+use Rattle.std.proofs.lemmas.Bool.Decides.{nat_tests}
+use Rattle.tm_base.specs.Paths.{Names}
+use Rattle.tm_graph.specs.Nodes.{Nodes}
+use Rattle.tm_store_records.specs.declared.spots.Spot.{Spot}
+use Rattle.tm_store_records.specs.declared.spots.Spot.TheVariants.{At, Apart}
+use Rattle.tm_store_records.specs.declared.spots.Step.{Step}
+use Rattle.tm_store_records.specs.Places.{StandsAt}
+use Rattle.tm_store_records.specs.Spotted.{joined, IsApart, IsAtOne, AreSpots}
+use Rattle.tm_store_records.proofs.Stepping.{Longer}
+
+pub eq_true : (m q : ℕ) → m ≡ q → nat_eq m q ≡ true
+eq_true m q e = grind (arith, nat_tests)
+
+pub eq_false : (m q : ℕ) → m ≢ q → nat_eq m q ≡ false
+eq_false m q e = grind (arith, nat_tests)
+
+-- a number comes to stand at paths more
+pub record Grows (Came After : Names → ℕ → Type 0) (New : Names → Type 0) (q : ℕ) : Type 0 where
+  pub keeps : (p : Names) (n : ℕ) → Came p n → After p n
+  pub adds : (p : Names) → New p → After p q
+  pub only : (p : Names) (n : ℕ) → After p n → Came p n ⊎ ((n ≡ q) × New p)
+
+pub grows_by : (Came After : Names → ℕ → Type 0) (New Same : Names → Type 0) (q : ℕ) → ((p : Names) → New p → Same p) → ((p : Names) → Same p → New p) → Grows Came After New q → Grows Came After Same q
+grows_by Came After New Same q to from grows = record {
+  keeps = grows.keeps;
+  adds = λ p s. grows.adds p (from p s);
+  only = λ p n a. ⊎_elim (λ (c : Came p n). inl c) (λ (e : (n ≡ q) × New p). inr (e.0, to p e.1)) (grows.only p n a);
+}
+
+module _ (g : Nodes) (roots : List ℕ) (Came After : Names → ℕ → Type 0) (spots : ℕ → Option Spot) (ids : Step → Option ℕ) (count : ℕ) where
+  -- the same come to stand at the same paths
+  pub spots_same : ((p : Names) (n : ℕ) → Came p n → After p n) → ((p : Names) (n : ℕ) → After p n → Came p n) → AreSpots g roots Came spots ids count → AreSpots g roots After spots ids count
+  spots_same to from are = record {
+    paths = are.paths;
+    numbered = are.numbered;
+    none = λ n e p a. are.none n e p (from p n a);
+    one = λ n id depth e. (let one = are.one n id depth e in record { path = one.path; is = one.is; long = one.long; near = one.near; came = to one.path n one.came; only = λ q a. one.only q (from q n a) });
+    apart = are.apart;
+  }
+
+-- more paths have numbers
+abbrev pub spots_longer : (g : Nodes) (roots : List ℕ) (Came : Names → ℕ → Type 0) (spots : ℕ → Option Spot) (ids new : Step → Option ℕ) (count after id : ℕ) (p : Names) (are : AreSpots g roots Came spots ids count) → Longer are.paths new after id p → AreSpots g roots Came spots new after
+spots_longer g roots Came spots ids new count after id p are longer = record {
+  paths = longer.longer;
+  numbered = longer.numbered;
+  none = are.none;
+  one = λ n i depth e. (let one = are.one n i depth e in record { path = one.path; is = longer.keeps i one.path one.is; long = one.long; near = one.near; came = one.came; only = one.only });
+  apart = are.apart;
+}
+
+module _ (g : Nodes) (roots : List ℕ) (Came After : Names → ℕ → Type 0) (spots new : ℕ → Option Spot) (ids : Step → Option ℕ) (count : ℕ) (are : AreSpots g roots Came spots ids count)
+    (New : Names → Type 0) (q : ℕ) (grows : Grows Came After New q) where
+  abbrev SpotIs : Spot → Type 0
+  SpotIs (At id depth) = IsAtOne g roots After are.paths id depth q
+  SpotIs Apart = IsApart g roots q
+
+  abbrev Puts : Spot → Type 0
+  Puts spot = (m : ℕ) → new m ≡ cond (nat_eq m q) (Some spot) (spots m)
+
+  module _ (spot : Spot) (put : Puts spot) where
+    here : (m : ℕ) → m ≡ q → new m ≡ Some spot
+    here m e = put m ∙ ap (λ b. cond b (Some spot) (spots m)) (eq_true m q e)
+
+    there : (m : ℕ) → m ≢ q → new m ≡ spots m
+    there m e = put m ∙ ap (λ b. cond b (Some spot) (spots m)) (eq_false m q e)
+
+    old_only : (m : ℕ) → m ≢ q → (p : Names) → After p m → Came p m
+    old_only m ne p a = ⊎_elim (λ (c : Came p m). c) (λ (e : (m ≡ q) × New p). absurd (ne e.0)) (grows.only p m a)
+
+    pub spots_put : SpotIs spot → AreSpots g roots After new ids count
+    spots_put good = record {
+      paths = are.paths;
+      numbered = are.numbered;
+      none = λ m e p a. ⊎_elim
+          (λ (same : m ≡ q). let both : Some spot ≡ None = sym (here m same) ∙ e in cc)
+          (λ (other : m ≢ q). are.none m (sym (there m other) ∙ e) p (old_only m other p a))
+          (cases_eq m q);
+      one = λ m id depth e. ⊎_elim
+          (λ (same : m ≡ q).
+          let both : Some spot ≡ Some (At id depth) = sym (here m same) ∙ e in
+          let is : spot ≡ At id depth = cc in
+          subst (λ k. IsAtOne g roots After are.paths id depth k) (sym same) (subst (λ (s : Spot). SpotIs s) is good))
+          (λ (other : m ≢ q).
+          let one = are.one m id depth (sym (there m other) ∙ e) in
+          record { path = one.path; is = one.is; long = one.long; near = one.near; came = grows.keeps one.path m one.came; only = λ p a. one.only p (old_only m other p a) })
+          (cases_eq m q);
+      apart = λ m e. ⊎_elim
+          (λ (same : m ≡ q).
+          let both : Some spot ≡ Some Apart = sym (here m same) ∙ e in
+          let is : spot ≡ Apart = cc in
+          subst (λ k. IsApart g roots k) (sym same) (subst (λ (s : Spot). SpotIs s) is good))
+          (λ (other : m ≢ q). are.apart m (sym (there m other) ∙ e))
+          (cases_eq m q);
+    }
+
+  pub apart_put : Puts Apart → IsApart g roots q → AreSpots g roots After new ids count
+  apart_put put apart = spots_put Apart put apart
+
+module _ (g : Nodes) (roots : List ℕ) (Came After : Names → ℕ → Type 0) (spots new : ℕ → Option Spot) (ids : Step → Option ℕ) (count : ℕ) (are : AreSpots g roots Came spots ids count)
+    (path : Names) (id depth q : ℕ) (is : slice_get are.paths id ≡ Some path) (long : length path ≡ depth) (near : depth ≤ 64)
+    (grows : Grows Came After (λ p. p ≡ path) q) (stands : (p : Names) (n : ℕ) → After p n → StandsAt g roots p n) where
+  here_only : (p : Names) → (Came p q → p ≡ path) → After p q → p ≡ path
+  here_only p came a = ⊎_elim came (λ (e : (q ≡ q) × (p ≡ path)). e.1) (grows.only p q a)
+
+  pub joined_put : ((m : ℕ) → new m ≡ cond (nat_eq m q) (Some (joined (spots q) id depth)) (spots m)) → AreSpots g roots After new ids count
+  joined_put = by_spot (spots q) refl
+    where
+      two : (other far : ℕ) → spots q ≡ Some (At other far) → (b : Bool) → (other == id) ≡ b → ((m : ℕ) → new m ≡ cond (nat_eq m q) (Some (cond b (At other far) Apart)) (spots m)) → AreSpots g roots After new ids count
+      two other far e true t put =
+          let one = are.one q other far e in
+          let same : other ≡ id = grind (arith, nat_tests) in
+          let paths : one.path ≡ path = (let both : Some one.path ≡ Some path = sym one.is ∙ ap (slice_get are.paths) same ∙ is in cc) in
+          spots_put g roots Came After spots new ids count are (λ p. p ≡ path) q grows (At other far) put
+          (record { path = one.path; is = one.is; long = one.long; near = one.near; came = grows.keeps one.path q one.came; only = λ p a. ⊎_elim (one.only p) (λ (e : (q ≡ q) × (p ≡ path)). e.1 ∙ sym paths) (grows.only p q a) })
+      two other far e false t put =
+          let one = are.one q other far e in
+          apart_put g roots Came After spots new ids count are (λ p. p ≡ path) q grows put (λ short one_path.
+          let paths : one.path ≡ path = one_path one.path path (stands one.path q (grows.keeps one.path q one.came)) (stands path q (grows.adds path refl)) in
+          let same : other ≡ id = are.numbered.distinct other id path (one.is ∙ ap (λ (p : Names). Some p) paths) is in
+          absurd (grind (arith, nat_tests)))
+
+      by_spot : (o : Option Spot) → spots q ≡ o → ((m : ℕ) → new m ≡ cond (nat_eq m q) (Some (joined o id depth)) (spots m)) → AreSpots g roots After new ids count
+      by_spot None e put = spots_put g roots Came After spots new ids count are (λ p. p ≡ path) q grows (At id depth) put
+          (record { path = path; is = is; long = long; near = near; came = grows.adds path refl; only = λ p a. here_only p (λ c. absurd (are.none q e p c)) a })
+      by_spot (Some (At other far)) e put = two other far e (other == id) refl put
+      by_spot (Some Apart) e put = apart_put g roots Came After spots new ids count are (λ p. p ≡ path) q grows put (are.apart q e)

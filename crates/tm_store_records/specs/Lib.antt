@@ -1,0 +1,13 @@
+pub mod Heads
+pub mod Found
+pub mod Places
+pub mod Rules
+pub mod Tags
+pub mod States
+pub mod Held
+pub mod Built
+pub mod Room
+pub mod Sizes
+pub mod Laws
+pub mod Drafts
+pub mod Spotted
