@@ -11,7 +11,7 @@ ghost use Rattle.tm_image.specs.Room.{HasRoom};
 ghost use Rattle.tm_image.specs.Commit.{IsPut};
 ghost use Rattle.tm_image.specs.Blank.{IsFirstPut};
 
-use crate::tests::words;
+use crate::tests::{COMMAND, words};
 use std::alloc::{AllocError, Global};
 use std::test::Fail;
 use tm_image::{Changes, Image, ImageError, LoadError, changes_by_key};
@@ -19,9 +19,6 @@ use tm_memworld::MemWorld;
 use tm_records::{Body, Put};
 use tm_run::{Status, run};
 use tm_world::{Bytes, Cause, Failed, Part, Side, World};
-
-/// The words of the command.
-const COMMAND: [&str; 6] = ["--volume", "v", "--store", "s", "--script", "p"];
 
 /// The tags of a volume of generation 1 whose next number is 16, closed cleanly or not.
 const CLEAN: &[u8; 64] =

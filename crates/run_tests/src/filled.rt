@@ -5,15 +5,13 @@ ghost use Rattle.tm_image.specs.Blank.{IsFirstPut};
 
 use crate::damaged::{ITEM, Meta, first_put, format, good_puts};
 use crate::images::run_next;
+use crate::tests::COMMAND;
 use std::alloc::Global;
 use std::test::Fail;
 use tm_image::ImageError;
 use tm_memworld::MemWorld;
 use tm_records::Put;
 use tm_run::Status;
-
-/// The words of the command.
-const COMMAND: [&str; 6] = ["--volume", "v", "--store", "s", "--script", "p"];
 
 /// What stands before the attributes of a folder in the root, which is called by its number.
 fn front(alloc: Global, number: u64) -> Result<Vec<u8>, ImageError> {

@@ -1,5 +1,5 @@
 //! Runs that go on where another ended, and images that are made.
-use crate::tests::words;
+use crate::tests::{COMMAND, words};
 use std::alloc::Global;
 use std::test::Fail;
 use tm_memworld::MemWorld;
@@ -24,9 +24,7 @@ pub(crate) fn run_next(
     Ok(run(alloc, &words, world))
 }
 
-/// The words without and with `--create`.
-const FOUND: [&str; 6] = ["--volume", "v", "--store", "s", "--script", "p"];
-
+/// The words of the command with `--create`.
 const CREATED: [&str; 8] = [
     "--volume", "v", "--store", "s", "--script", "p", "--create", "64",
 ];
@@ -36,8 +34,8 @@ fn a_second_run_goes_on(rt: HostRuntime) -> Result<(), Fail> {
     let mut world = MemWorld::new(rt.alloc())?;
     world.put_image("v", 64)?;
     world.put_image("s", 64)?;
-    let first = run_next(rt.alloc(), &mut world, &FOUND, MADE)?;
-    let second = run_next(rt.alloc(), &mut world, &FOUND, "cat /f\n")?;
+    let first = run_next(rt.alloc(), &mut world, &COMMAND, MADE)?;
+    let second = run_next(rt.alloc(), &mut world, &COMMAND, "cat /f\n")?;
     assert_eq!(rt;
         str::from_utf8(world.said())?,
         "ok\nok\nok\nbytes 5 hello\nok\n"
@@ -55,7 +53,7 @@ fn seven_blocks_are_too_few(rt: HostRuntime) -> Result<(), Fail> {
         world.put_image("s", 64)?;
         let script =
             "at 2009-03-02-090000\nnewvolume HD 6ba7b810-9dad-11d1-80b4-00c04fd430c8 1000\n";
-        run_next(rt.alloc(), &mut world, &FOUND, script)?;
+        run_next(rt.alloc(), &mut world, &COMMAND, script)?;
         assert_eq!(rt; str::from_utf8(world.said())?, says);
     }
     Ok(())
@@ -66,7 +64,7 @@ fn images_are_made_where_none_stand(rt: HostRuntime) -> Result<(), Fail> {
     let script = "at 2009-03-02-090000\nnewvolume HD 6ba7b810-9dad-11d1-80b4-00c04fd430c8 1000\n";
     for (texts, says) in [
         (&CREATED as &[&str], "ok\nok\n"),
-        (&FOUND as &[&str], "ok\nrefused 4 Small\n"),
+        (&COMMAND as &[&str], "ok\nrefused 4 Small\n"),
     ] {
         let mut world = MemWorld::new(rt.alloc())?;
         world.put_place("v", 64)?;
@@ -97,9 +95,9 @@ fn what_does_not_fit_is_full(rt: HostRuntime) -> Result<(), Fail> {
         let mut world = MemWorld::new(rt.alloc())?;
         world.put_image("v", 64)?;
         world.put_image("s", 64)?;
-        run_next(rt.alloc(), &mut world, &FOUND, volume)?;
+        run_next(rt.alloc(), &mut world, &COMMAND, volume)?;
         let script = format!(in rt.alloc(); "at 2009-03-02-090000\n{lines}")?;
-        run_next(rt.alloc(), &mut world, &FOUND, &script)?;
+        run_next(rt.alloc(), &mut world, &COMMAND, &script)?;
         let said = str::from_utf8(world.said())?;
         let all = format!(in rt.alloc(); "ok\nok\nok\n{says}")?;
         assert_eq!(rt; said, all.as_str());

@@ -2,6 +2,7 @@
 ghost use Rattle.std.specs.Prelude.{◌≡◌, ◌≤◌, IfOk};
 
 use crate::images::run_next;
+use crate::tests::COMMAND;
 use std::alloc::Global;
 use std::collections::BTreeMap;
 use std::test::Fail;
@@ -15,9 +16,6 @@ use tm_text::parse;
 use tm_tree::Item;
 use tm_volume::Volume;
 use tm_world::{Failed, Part, Side, World};
-
-/// The words of the command.
-const COMMAND: [&str; 6] = ["--volume", "v", "--store", "s", "--script", "p"];
 
 /// A line of each kind that changes a volume, and how many items there are after it.
 const CHANGES: [(&str, usize); 14] = [
@@ -39,7 +37,7 @@ const CHANGES: [(&str, usize); 14] = [
 
 /// Why a volume was not read.
 #[derive(Clone, Copy, Debug, PartialEq, Eq)]
-enum ReadError {
+pub(crate) enum ReadError {
     /// It could not be loaded.
     Load(LoadError),
     /// Its items could not be read.
@@ -55,7 +53,10 @@ fn attach<W: World>(world: &mut W) -> Result<u32, Failed>
 }
 
 /// The items of the volume that stands at `v`, and its next number.
-fn read<W: World>(alloc: Global, world: &mut W) -> Result<(BTreeMap<Path, Item>, u64), ReadError> {
+pub(crate) fn read<W: World>(
+    alloc: Global,
+    world: &mut W,
+) -> Result<(BTreeMap<Path, Item>, u64), ReadError> {
     let failed = ReadError::Load(LoadError::Fault);
     let Ok(blocks) = attach(world) else {
         return Err(failed);
@@ -72,8 +73,22 @@ fn read<W: World>(alloc: Global, world: &mut W) -> Result<(BTreeMap<Path, Item>,
     }
 }
 
+/// The generation of the volume that stands at `v`.
+pub(crate) fn generation<W: World>(alloc: Global, world: &mut W) -> Result<u64, LoadError> {
+    let Ok(blocks) = attach(world) else {
+        return Err(LoadError::Fault);
+    };
+    let Ok(()) = world.sync(Side::Volume) else {
+        return Err(LoadError::Fault);
+    };
+    match Volume::load(alloc, world, blocks) {
+        Ok(volume) => Ok(volume.info().generation),
+        Err(why) => Err(why),
+    }
+}
+
 /// Whether each of these items stands in the plain volume.
-fn stand(items: &BTreeMap<Path, Item>, plain: &PlainVolume) -> bool {
+pub(crate) fn stand(items: &BTreeMap<Path, Item>, plain: &PlainVolume) -> bool {
     for (path, item) in items {
         match plain.find(path) {
             Ok(found) if found.is_same(item) => {}
@@ -84,7 +99,7 @@ fn stand(items: &BTreeMap<Path, Item>, plain: &PlainVolume) -> bool {
 }
 
 /// Makes the change of a line in the plain volume.
-fn change(
+pub(crate) fn change(
     alloc: Global,
     plain: &mut PlainVolume,
     line: &str,

@@ -8,7 +8,7 @@ use tm_memworld::MemWorld;
 use tm_run::{Status, run};
 
 /// The command that the program's manual gives.
-const COMMAND: [&str; 6] = ["--volume", "v", "--store", "s", "--script", "p"];
+pub(crate) const COMMAND: [&str; 6] = ["--volume", "v", "--store", "s", "--script", "p"];
 
 /// The usage line.
 const USAGE: &str = "usage: tmvol --volume PATH --store PATH --script PATH [--create BLOCKS]\n";

@@ -28,7 +28,7 @@ use Rattle.tm_tree.specs.Views.{is_hidden, hidden_paths}
 use Rattle.tm_tree.specs.Copies.{bare, is_same_at}
 use Rattle.tm_tree.proofs.ViewsKept.{item_at-view}
 use Rattle.tm_graph.specs.declared.built.Built.{Built}
-use Rattle.tm_graph.specs.Nodes.{Nodes, node, entries_of, times, body_entries}
+use Rattle.tm_graph.specs.Nodes.{Nodes, entries_of, times, body_entries}
 use Rattle.tm_identity.specs.Stored.{node_length, body_length}
 use Rattle.tm_nodes.specs.Attrs.{IsAttrs}
 use Rattle.tm_nodes.specs.Nodes.{node_attrs, IsNodeTail, AreEntries}

@@ -1,7 +1,6 @@
 -- A backup that runs to its end.
-use Rattle.std.proofs.Common.{◌≡◌, ◌⊎◌, ⊎_elim, ℕ, Option, Some, None, Result, Ok, Err, List, [], ◌∷◌, refl, sym, ◌∙◌, ap, subst, arith}
-use Rattle.tm_base.specs.declared.refused.LineFault.{LineFault}
-use Rattle.tm_base.specs.declared.refused.LineFault.TheVariants.{Refused as RefusedFor, Fault, Memory}
+use Rattle.std.proofs.Common.{◌≡◌, ⊎_elim, ℕ, Option, Some, None, Ok, Err, List, [], ◌∷◌, refl, sym, ◌∙◌, ap, subst, arith}
+use Rattle.tm_base.specs.declared.refused.LineFault.TheVariants.{Refused as RefusedFor}
 use Rattle.tm_base.specs.declared.refused.Refused.{Refused}
 use Rattle.tm_reply.specs.declared.row.ReplyRow.{ReplyRow}
 use Rattle.tm_fit.specs.Fit.{Fits}
@@ -9,7 +8,7 @@ use Rattle.tm_tree.specs.States.{StoreState, backed_up}
 use Rattle.tm_store_records.specs.States.{StoredStore, StoreReads, LeavesStore}
 use Rattle.tm_volume.specs.Seen.{Seen as VolumeSeen, StandsOn, stored_on as volume_stored_on}
 use Rattle.tm_volume.specs.Stored.{StoredVolume}
-use Rattle.tm_world.specs.Disk.{Disk, Image, IsLeft}
+use Rattle.tm_world.specs.Disk.{Disk, Image}
 use Rattle.tm_world.specs.Log.{Log, now}
 use Rattle.tm_world.specs.Outside.{disk, AreApart}
 use Rattle.tm_world.specs.Runs.{Runs}

@@ -1,21 +1,19 @@
 -- The last commit, and that each line has a reply.
-use Rattle.std.proofs.Common.{◌≡◌, ℕ, ◌+◌, ◌<◌, Bool, true, false, if◌then◌else◌, Option, Some, None, List, [], ◌∷◌, ◌++◌, length, codes, refl, sym, ap, ◌∙◌, arith}
-use Rattle.std.specs.Option.{option_map}
+use Rattle.std.proofs.Common.{◌≡◌, ℕ, ◌<◌, Bool, true, false, if◌then◌else◌, Option, Some, None, List, [], ◌∷◌, ◌++◌, length, codes, refl, ap, ◌∙◌, arith}
 use Rattle.std.proofs.lemmas.List.{length-append}
 use Rattle.tm_base.specs.declared.refused.Refused.{Refused}
 use Rattle.std.specs.Fmt.{decimal}
 use Rattle.tm_base.specs.Refusals.{number_of}
 use Rattle.tm_reply.specs.Closings.{closing_text, refusal_text}
-use Rattle.tm_reply.specs.Layout.{spaced, line_of}
+use Rattle.tm_reply.specs.Layout.{line_of}
 use Rattle.tm_reply.specs.Replies.{reply_text, rows_text}
 use Rattle.tm_text.specs.declared.line.Line.{Line}
 use Rattle.tm_text.specs.declared.line.Line.TheVariants as line
 use Rattle.tm_store_records.specs.States.{StoredStore}
 use Rattle.tm_tree.specs.Refusing.{first_refused}
 use Rattle.tm_tree.specs.declared.change.Change.{Change}
-use Rattle.tm_volume.specs.Stored.{StoredVolume, reopened}
+use Rattle.tm_volume.specs.Stored.{StoredVolume}
 use Rattle.tm_machine.specs.Changing.{change_of}
-use Rattle.tm_machine.specs.Runs.{state_after}
 use Rattle.tm_machine.specs.States.{State, Stored, kept, opened}
 use Rattle.tm_machine.specs.Steps as steps
 use Rattle.tm_machine.specs.Steps.{after, after_by, left, left_by, other_after, other_left, refusal, reply, start_tests, step}

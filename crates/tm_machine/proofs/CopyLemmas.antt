@@ -1,14 +1,13 @@
 -- The copy of a backup, and how it ends.
-use Rattle.std.proofs.Common.{◌≡◌, ◌⊎◌, inl, inr, ℕ, ◌+◌, ◌-◌, ◌<◌, ◌≤◌, Bool, true, false, cond, nat_lt, Option, Some, None, IfSome, Result, Ok, Err, List, [], ◌∷◌, ◌++◌, length, sum, refl, sym, ◌∙◌, ap, subst, arith}
+use Rattle.std.proofs.Common.{◌≡◌, inl, ℕ, ◌+◌, ◌-◌, Bool, true, false, cond, nat_lt, Option, Some, None, IfSome, Ok, Err, List, [], ◌∷◌, ◌++◌, length, sum, refl, sym, ◌∙◌, ap, subst, arith}
 use Rattle.tm_base.specs.declared.refused.LineFault.{LineFault}
 use Rattle.tm_base.specs.declared.refused.LineFault.TheVariants.{Refused as RefusedFor, Fault, Memory}
 use Rattle.tm_base.specs.declared.refused.Refused.{Refused}
 use Rattle.tm_base.specs.declared.refused.Refused.TheVariants.{Full}
-use Rattle.tm_base.specs.declared.refused.Side.TheVariants.{Volume as VolumeNamed, Store as StoreNamed}
 use Rattle.tm_reply.specs.declared.row.ReplyRow.{ReplyRow}
 use Rattle.tm_tree.specs.declared.rows.Mark.{Mark}
 use Rattle.tm_tree.specs.Refusing.{Tests, first_refused, too_many}
-use Rattle.tm_tree.specs.States.{StoreState, VolumeState, backed_up, base}
+use Rattle.tm_tree.specs.States.{StoreState, backed_up, base}
 use Rattle.tm_tree.specs.Views.{view}
 use Rattle.tm_graph.specs.declared.built.Built.{Built}
 use Rattle.tm_image.specs.Room.{free_of, need_of}
@@ -20,8 +19,8 @@ use Rattle.tm_store_records.specs.Room.{store_blocks}
 use Rattle.tm_store_records.specs.Sizes.{IsSized, free_blocks, node_count, table_blocks}
 use Rattle.tm_store_records.specs.States.{StoredStore, StoreReads, LeavesStore, LeavesOneStore}
 use Rattle.tm_volume.specs.Stored.{StoredVolume}
-use Rattle.tm_world.specs.Disk.{Disk, Image, IsLeft}
-use Rattle.tm_world.specs.Log.{Log, now}
+use Rattle.tm_world.specs.Disk.{Disk}
+use Rattle.tm_world.specs.Log.{Log}
 use Rattle.tm_world.specs.Runs.{Runs}
 use Rattle.tm_world.specs.declared.world.Side.TheVariants.{Store as StoreSide}
 use Rattle.tm_world.proofs.Going.{Runs-weaker, Runs-then}

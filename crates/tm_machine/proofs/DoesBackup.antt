@@ -1,5 +1,5 @@
 -- A session in which a backup has started.
-use Rattle.std.proofs.Common.{◌≡◌, ℕ, ◌≤◌, Option, Some, None, Result, Ok, Err, List, [], ◌∷◌, refl, sym, ◌∙◌, ap, subst}
+use Rattle.std.proofs.Common.{◌≡◌, ℕ, Option, Some, None, Result, Ok, Err, List, [], ◌∷◌, sym, ◌∙◌, ap, subst}
 use Rattle.tm_base.specs.declared.refused.LineFault.{LineFault}
 use Rattle.tm_base.specs.declared.refused.LineFault.TheVariants.{Refused as RefusedFor, Fault, Memory}
 use Rattle.tm_base.specs.declared.refused.Refused.{Refused}
@@ -21,7 +21,7 @@ use Rattle.tm_world.specs.declared.world.Side.TheVariants.{Volume as VolumeSide,
 use Rattle.tm_world.proofs.Going.{Passes-none}
 use Rattle.tm_world.proofs.Pairs.{Runs-ends}
 use Rattle.tm_machine.specs.Backups.{AnswersBackup, LeavesOneOf, dated, ends_as}
-use Rattle.tm_machine.specs.Session.{Seen, state_on, Standing, IsIdle, IsOpen, IfReplied, other_effect, Replies, Does}
+use Rattle.tm_machine.specs.Session.{state_on, Standing, IsIdle, IsOpen, IfReplied, other_effect, Replies, Does}
 use Rattle.tm_machine.specs.States.{State, store_in}
 use Rattle.tm_machine.specs.Steps.{backup_tests, ended, start_tests, walks_tests}
 use Rattle.tm_machine.proofs.CopyLemmas.{first_some}

@@ -1,7 +1,6 @@
 -- A pair that fits stays so.
-use Rattle.std.proofs.Common.{◌≡◌, ℕ, Bool, true, false, cond, Option, Some, None, is_some, is_none, unwrap_or, nat_lt, List, [], ◌∷◌, ◌++◌, refl, sym, ◌∙◌, ap, subst}
+use Rattle.std.proofs.Common.{◌≡◌, ℕ, Bool, true, false, Option, Some, None, is_some, unwrap_or, nat_lt, List, [], ◌∷◌, ◌++◌, refl, sym, ◌∙◌, ap, subst}
 use Rattle.std.specs.Option.{option_map}
-use Rattle.std.specs.List.{list_any}
 use Rattle.tm_base.specs.declared.refused.Refused.{Refused}
 use Rattle.tm_base.specs.declared.refused.Refused.TheVariants.{Already, Small, IdTaken}
 use Rattle.tm_text.specs.declared.line.Line.{Line}
@@ -12,14 +11,14 @@ use Rattle.tm_tree.specs.Refusing.{Tests, first_refused, needs_moment}
 use Rattle.tm_tree.specs.States.{StoreState, VolumeState, new_volume as volume_of, new_store}
 use Rattle.tm_tree.proofs.Passes.{none_before, none_after}
 use Rattle.tm_fit.specs.Fit.{Fits}
-use Rattle.tm_fit.specs.Laws.{ChangeFits, BackupFits, NewVolumeFits, NewVolumeAloneFits, NewStoreFits}
+use Rattle.tm_fit.specs.Laws.{ChangeFits, BackupFits, NewVolumeFits, NewVolumeAloneFits, NewStoreFits, LaterGenerationFits}
 use Rattle.tm_store_records.specs.States.{StoredStore}
 use Rattle.tm_volume.specs.Changes as volume
 use Rattle.tm_volume.specs.Stored.{StoredVolume}
 use Rattle.tm_machine.specs.Changing.{change_of}
-use Rattle.tm_machine.specs.Fitting.{PairFits, FitsFor, FitsAll, FitLasts}
+use Rattle.tm_machine.specs.Fitting.{PairFits, FitsFor, FitLasts}
 use Rattle.tm_machine.specs.States.{State, store_in}
-use Rattle.tm_machine.specs.Steps.{after, after_by, at_rest, backed, changed, change_tests, ended, is_taken, left, left_by, new_store_tests, new_volume_tests, other_after, other_left, other_tests, refusal, start_tests, step, tests_by, unless_refused}
+use Rattle.tm_machine.specs.Steps.{after, after_by, at_rest, backed, changed, change_tests, ended, is_taken, left, left_by, new_volume_tests, other_after, other_left, other_tests, refusal, start_tests, step, tests_by, unless_refused}
 
 -- the laws on volumes and stores
 pub record FitLaws : Type 0 where
@@ -28,13 +27,14 @@ pub record FitLaws : Type 0 where
   pub new_volumes : NewVolumeFits
   pub alone : NewVolumeAloneFits
   pub new_stores : NewStoreFits
+  pub later : LaterGenerationFits
 
 -- a store at rest is the same store
 rested : (v : Option VolumeState) (z : Option StoredStore) → Fits v (store_in z) → Fits v (store_in (option_map (λ x. at_rest x.store) z))
 rested v None h = h
 rested v (Some z) h = h
 
-ended_fits : (why : Option Refused) (s : State) → PairFits s → PairFits (ended why s)
+pub ended_fits : (why : Option Refused) (s : State) → PairFits s → PairFits (ended why s)
 ended_fits None s h = rested (option_map (λ v. v.volume) s.volume) s.store h
 ended_fits (Some why) s h = h
 
@@ -92,7 +92,7 @@ module _ (laws : FitLaws) where
   other_fits s line.StartBackupBlock none h = backed_fits s.volume s.store s.moment h
   other_fits s _ none h = h
 
-  after_fits : (s : State) (l : Line) (c : Option Change) → first_refused (tests_by s l c) ≡ None → PairFits s → PairFits (after_by s l c)
+  pub after_fits : (s : State) (l : Line) (c : Option Change) → first_refused (tests_by s l c) ≡ None → PairFits s → PairFits (after_by s l c)
   after_fits s l (Some c) none h = change_fits s c s.volume refl none h
   after_fits s l None none h = other_fits s l none h
 

@@ -1,6 +1,7 @@
 pub mod Reading
 pub mod CommitLemmas
 pub mod FitLemmas
+pub mod FitStops
 pub mod StopLemmas
 pub mod Resting
 pub mod QueryLines

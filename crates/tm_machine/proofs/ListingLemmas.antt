@@ -1,8 +1,8 @@
 -- What a walk finds on the volume, and the entries of a folder.
-use Rattle.std.proofs.Common.{◌≡◌, ℕ, zero, suc, ◌+◌, ◌-◌, ◌<◌, ◌≤◌, Bool, true, false, if◌then◌else◌, cond, not, ◌&&◌, Option, Some, None, IfSome, Result, Ok, Err, OnOk, List, [], ◌∷◌, ◌++◌, filter, map, length, take, drop, get_or, add-one, drop-cons, append_assoc, append-nil, refl, sym, ap, ◌∙◌, subst, arith}
+use Rattle.std.proofs.Common.{◌≡◌, ℕ, suc, ◌+◌, ◌<◌, Bool, true, false, if◌then◌else◌, not, ◌&&◌, Option, Some, None, IfSome, Result, Ok, Err, OnOk, List, [], ◌∷◌, ◌++◌, map, length, take, drop, get_or, add-one, drop-cons, append_assoc, append-nil, refl, sym, ap, ◌∙◌, subst, arith}
 use Rattle.std.specs.BTreeMap.{is_at}
 use Rattle.std.specs.Cmp.{eq_by_cmp_equiv, unsigned_Decides}
-use Rattle.std.specs.Cmp.Lexicographic.{pointwise, pointwise_decides}
+use Rattle.std.specs.Cmp.Lexicographic.{pointwise_decides}
 use Rattle.std.specs.List.{All}
 use Rattle.std.specs.List.Sorted.{IsStrictlySortedBy}
 use Rattle.std.specs.Map.{keys_of, lookup}
@@ -15,7 +15,7 @@ use Rattle.tm_base.specs.Paths.{Names, path_cmp, is_root, same_path, parent_of}
 use Rattle.tm_base.specs.declared.refused.LineFault.{LineFault}
 use Rattle.tm_base.specs.declared.refused.LineFault.TheVariants as fault
 use Rattle.tm_base.specs.declared.refused.Refused.{Refused}
-use Rattle.tm_base.specs.declared.refused.Refused.TheVariants.{NotFound, NotFolder}
+use Rattle.tm_base.specs.declared.refused.Refused.TheVariants.{NotFolder}
 use Rattle.tm_items.specs.Computed.{tree_of, items_of, placed_rows}
 use Rattle.tm_items.proofs.Finding.{last_apart}
 use Rattle.tm_base.specs.declared.refused.Side.{Side as Named}

@@ -1,5 +1,5 @@
 -- Lines that stay in memory, and lines that read.
-use Rattle.std.proofs.Common.{◌≡◌, ℕ, Option, Some, None, Result, Ok, Err, List, [], refl, sym, ◌∙◌, ap, subst}
+use Rattle.std.proofs.Common.{◌≡◌, ℕ, Option, Some, Result, Ok, Err, List, [], sym, ap, subst}
 use Rattle.tm_base.specs.declared.refused.LineFault.{LineFault}
 use Rattle.tm_base.specs.declared.refused.LineFault.TheVariants.{Refused as RefusedFor, Fault, Memory}
 use Rattle.tm_base.specs.declared.refused.Side.{Side as Named}
@@ -9,7 +9,7 @@ use Rattle.std.specs.Option.{option_map_or}
 use Rattle.tm_tree.specs.Changes.{item_tests}
 use Rattle.tm_tree.specs.Refusing.{Tests, first_refused}
 use Rattle.tm_volume.specs.Seen.{Seen as VolumeSeen, tree_on}
-use Rattle.tm_world.specs.Log.{Log, now, Passes, Steps}
+use Rattle.tm_world.specs.Log.{Log, now, Steps}
 use Rattle.tm_world.specs.Outside.{Outside, disk}
 use Rattle.tm_world.specs.declared.world.Side.{Side}
 use Rattle.tm_world.specs.declared.world.Side.TheVariants.{Volume as VolumeSide}
@@ -18,11 +18,11 @@ use Rattle.tm_text.specs.declared.line.Line.{Line}
 use Rattle.tm_machine.specs.Answers.{AnswersBy, AnswersQuery, AnswersReading}
 use Rattle.tm_machine.specs.Commits.{unless_refused}
 use Rattle.tm_machine.specs.Queries.{list_rows}
-use Rattle.tm_machine.specs.Session.{Seen, state_on, Standing, IsOpen, Alike, IfReplied, Effect, effect, other_effect, Replies, Does}
+use Rattle.tm_machine.specs.Session.{Seen, state_on, Standing, IsOpen, Alike, IfReplied, effect, other_effect, Replies, Does}
 use Rattle.tm_machine.specs.States.{State, Stored, kept}
 use Rattle.tm_machine.specs.Steps.{clock_tests, on_volume}
-use Rattle.tm_machine.specs.Stops.{LeavesCommits, LeavesPair}
-use Rattle.tm_machine.proofs.Resting.{seen, stored_in, state_alike, standing_alike, open_alike, replied_any, reading_moments}
+use Rattle.tm_machine.specs.Stops.{LeavesPair}
+use Rattle.tm_machine.proofs.Resting.{stored_in, state_alike, standing_alike, open_alike, replied_any, reading_moments}
 
 -- ---- a line that stays in memory
 

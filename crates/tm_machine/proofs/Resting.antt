@@ -1,9 +1,8 @@
 -- A session between lines, and the moments of a line that commits on one side.
-use Rattle.std.proofs.Common.{◌≡◌, ◌⊎◌, inl, inr, ⊎_elim, ℕ, ◌≤◌, true, Option, Some, None, IfSome, Result, Ok, Err, List, [], ◌∷◌, take, length, refl, sym, ◌∙◌, ap, subst, arith}
+use Rattle.std.proofs.Common.{◌≡◌, ◌⊎◌, ℕ, ◌≤◌, Option, Some, None, IfSome, Result, Ok, Err, List, ◌∷◌, refl, sym, ◌∙◌, ap, subst, arith}
 use Rattle.std.specs.Option.{option_map}
 use Rattle.tm_base.specs.declared.refused.LineFault.{LineFault}
 use Rattle.tm_base.specs.declared.refused.LineFault.TheVariants.{Refused as RefusedFor, Fault, Memory}
-use Rattle.tm_reply.specs.declared.row.ReplyRow.{ReplyRow}
 use Rattle.tm_store.specs.Sides.{SideReads as StoreSideReads, LeavesSide as LeavesStoreSide, BlankLeaves as StoreBlankLeaves}
 use Rattle.tm_store_records.specs.Held.{Held, stored_on as store_stored_on}
 use Rattle.tm_store_records.specs.Laws.{HeldReads}
@@ -14,15 +13,14 @@ use Rattle.tm_volume.specs.Stored.{StoredVolume}
 use Rattle.tm_world.specs.Disk.{Disk, Image, IsLeft}
 use Rattle.tm_world.specs.Log.{Log, now, Passes, Steps}
 use Rattle.tm_world.specs.Outside.{Outside, disk, AreApart}
-use Rattle.tm_world.specs.Runs.{Runs, Beside}
+use Rattle.tm_world.specs.Runs.{Runs}
 use Rattle.tm_world.specs.declared.world.Side.{Side}
 use Rattle.tm_world.specs.declared.world.Side.TheVariants.{Volume as VolumeSide, Store as StoreSide}
-use Rattle.tm_world.proofs.Going.{Passes-none, Passes-weaker}
+use Rattle.tm_world.proofs.Going.{Passes-weaker}
 use Rattle.tm_world.proofs.Pairs.{Runs-beside}
-use Rattle.tm_machine.specs.Commits.{last_from}
 use Rattle.tm_machine.specs.Session.{Seen, state_on, VolumeStands, StoreStands, Standing, IsIdle, IsOpen, Alike, unlooked, IfReplied}
 use Rattle.tm_machine.specs.States.{State, Stored, kept}
-use Rattle.tm_machine.specs.Stops.{PairReads, IsAmong, LeavesCommits, LeavesPair}
+use Rattle.tm_machine.specs.Stops.{IsAmong, LeavesCommits, LeavesPair}
 
 -- ---- the same but for looks
 

@@ -1,17 +1,16 @@
 -- When a backup may start.
 use Rattle.std.proofs.Common.{◌≡◌, ⊎_elim, ℕ, ◌+◌, ◌-◌, ◌^◌, ◌<◌, ◌≤◌, Bool, true, false, cond, nat_lt, nat_le, Option, Some, None, List, [], ◌∷◌, ◌++◌, length, map, zero, suc, refl, sym, ◌∙◌, ap, subst, arith}
 use Rattle.std.specs.Prelude.{slice_get}
-use Rattle.std.specs.List.{All, last_or}
+use Rattle.std.specs.List.{All}
 use Rattle.std.specs.Option.{option_map}
 use Rattle.std.proofs.lemmas.Bool.Decides.{nat_tests}
 use Rattle.std.proofs.lemmas.Bool.{cases_lt}
 use Rattle.tm_base.specs.declared.refused.Refused.{Refused}
 use Rattle.tm_base.specs.declared.refused.Refused.TheVariants.{DateNotLater, IdsSpent, TooMany}
 use Rattle.tm_tree.specs.Refusing.{first_refused, needs_moment, too_many}
-use Rattle.tm_tree.specs.States.{Snapshot, latest}
+use Rattle.tm_tree.specs.States.{Snapshot}
 use Rattle.tm_store_records.specs.declared.snapshot.Snapshot.{Snapshot as Row}
-use Rattle.tm_store_records.specs.Found.{snapshot_key, snapshots_in}
-use Rattle.tm_store_records.specs.Heads.{heads_of}
+use Rattle.tm_store_records.specs.Found.{snapshot_key}
 use Rattle.tm_store_records.specs.Held.{Held, IsWhole, MayFinish, files_of, store_on}
 use Rattle.tm_store_records.specs.States.{snapshot_on}
 use Rattle.tm_machine.specs.Steps.{backup_tests, date_tests, most_snapshots}

@@ -1,18 +1,17 @@
 -- Commits one after the other, and lines one after the other.
-use Rattle.std.proofs.Common.{◌≡◌, ℕ, zero, suc, ◌+◌, ◌<◌, ◌≤◌, List, [], ◌∷◌, ◌++◌, length, take, refl, sym, ◌∙◌, ap, subst, arith, append_assoc, append-nil}
+use Rattle.std.proofs.Common.{◌≡◌, ℕ, zero, suc, ◌+◌, ◌<◌, ◌≤◌, List, [], ◌∷◌, ◌++◌, length, take, sym, ◌∙◌, ap, subst, arith, append_assoc, append-nil}
 use Rattle.std.proofs.lemmas.List.{length-append, take-append-le}
 use Rattle.std.proofs.Math.Seq.{take-append_seam, take-append-add}
 use Rattle.tm_reply.specs.Replies.{reply_text}
 use Rattle.tm_text.specs.declared.line.Line.{Line}
-use Rattle.tm_world.specs.Disk.{Image, IsLeft}
-use Rattle.tm_world.specs.Outside.{Outside, disk, AreApart}
-use Rattle.tm_world.specs.Log.{Log, now, Passes}
-use Rattle.tm_world.proofs.Going.{Passes-then, Passes-weaker}
+use Rattle.tm_world.specs.Disk.{Image}
+use Rattle.tm_world.specs.Outside.{Outside}
+use Rattle.tm_world.specs.Log.{now}
 use Rattle.tm_machine.specs.Commits.{last_from, commits_of, commits}
 use Rattle.tm_machine.specs.Runs.{said_of}
 use Rattle.tm_machine.specs.States.{State, Stored, kept}
 use Rattle.tm_machine.specs.Steps.{reply, step}
-use Rattle.tm_machine.specs.Stops.{PairReads, IsAmong, LeavesCommits, LeavesPair, IsPrefix, LeavesPrefix}
+use Rattle.tm_machine.specs.Stops.{PairReads, IsAmong, LeavesCommits, LeavesPair, LeavesPrefix}
 use Rattle.tm_machine.proofs.CommitLemmas.{last_from-append, last_of_line, replies_are_some}
 
 -- ---- commits

@@ -1,27 +1,25 @@
 -- Lines that commit on the store's side.
-use Rattle.std.proofs.Common.{◌≡◌, ◌≢◌, ◌⊎◌, ⊎_elim, ℕ, ◌<◌, ◌≤◌, Bool, true, false, Option, Some, None, is_some, nat_lt, Result, Ok, Err, List, [], ◌∷◌, ◌++◌, length, take, refl, sym, ◌∙◌, ap, subst, arith, cond, zero, suc}
-use Rattle.std.specs.Option.{option_map, option_map_or}
+use Rattle.std.proofs.Common.{◌≡◌, ◌⊎◌, ⊎_elim, ℕ, ◌<◌, ◌≤◌, Bool, true, false, Option, Some, None, is_some, nat_lt, Result, Ok, Err, List, [], ◌∷◌, ◌++◌, length, take, refl, sym, ◌∙◌, ap, subst, arith, cond, zero, suc}
 use Rattle.std.proofs.lemmas.Bool.Decides.{nat_tests}
 use Rattle.tm_base.specs.declared.refused.LineFault.{LineFault}
 use Rattle.tm_base.specs.declared.refused.LineFault.TheVariants.{Refused as RefusedFor, Fault, Memory}
 use Rattle.tm_base.specs.declared.refused.Refused.{Refused}
 use Rattle.tm_base.specs.declared.refused.Refused.TheVariants.{Already, Small}
-use Rattle.tm_base.specs.declared.refused.Side.{Side as Named}
 use Rattle.tm_reply.specs.declared.row.ReplyRow.{ReplyRow}
 use Rattle.tm_text.specs.declared.line.Line.TheVariants as line
 use Rattle.tm_tree.specs.Refusing.{Tests, first_refused}
-use Rattle.tm_tree.specs.States.{StoreState, new_store, backed_up}
+use Rattle.tm_tree.specs.States.{new_store, backed_up}
 use Rattle.tm_store.specs.Answers.{IfRefused, IsSmall}
-use Rattle.tm_store.specs.Sides.{SideReads as StoreSideReads, LeavesSide as LeavesStoreSide}
+use Rattle.tm_store.specs.Sides.{SideReads as StoreSideReads}
 use Rattle.tm_store_records.specs.Held.{Held, stored_on as store_stored_on}
-use Rattle.tm_store_records.specs.States.{StoredStore, StoreReads}
+use Rattle.tm_store_records.specs.States.{StoredStore}
 use Rattle.tm_image.specs.Seen.{Stands}
 use Rattle.tm_volume.specs.Reads.{SideReads, LeavesSide}
-use Rattle.tm_volume.specs.Seen.{Seen as VolumeSeen, IsKept, IsReady}
+use Rattle.tm_volume.specs.Seen.{Seen as VolumeSeen}
 use Rattle.tm_volume.specs.Stored.{StoredVolume}
 use Rattle.tm_world.specs.Disk.{Disk, Image, IsLeft}
 use Rattle.tm_world.specs.Log.{Log, now, Passes}
-use Rattle.tm_world.specs.Outside.{Outside, disk, AreApart}
+use Rattle.tm_world.specs.Outside.{disk, AreApart}
 use Rattle.tm_world.specs.Runs.{Runs}
 use Rattle.tm_world.specs.declared.world.Side.{Side}
 use Rattle.tm_world.specs.declared.world.Side.TheVariants.{Volume as VolumeSide, Store as StoreSide}
@@ -30,9 +28,9 @@ use Rattle.tm_world.proofs.Pairs.{Runs-beside, Runs-ends}
 use Rattle.tm_machine.specs.Backups.{unless, walk_refusal, ends_as, dated, IsOneOf, LeavesOneOf, AnswersBackup}
 use Rattle.tm_machine.specs.Commits as commits
 use Rattle.tm_machine.specs.Commits.{last_from, unless_refused}
-use Rattle.tm_machine.specs.Session.{Seen, state_on, VolumeStands, StoreStands, Standing, IsIdle, IsOpen, IfReplied, Effect, effect, other_effect, Replies, Does}
+use Rattle.tm_machine.specs.Session.{Seen, state_on, VolumeStands, Standing, IsIdle, IsOpen, effect, other_effect, Replies, Does}
 use Rattle.tm_machine.specs.States.{State, Stored, kept}
-use Rattle.tm_machine.specs.Steps.{at_rest, ended, finished_rows, new_store_tests, least_blocks, start_tests, walks_tests, whole_tests}
+use Rattle.tm_machine.specs.Steps.{at_rest, ended, new_store_tests, least_blocks, start_tests, walks_tests, whole_tests}
 use Rattle.tm_machine.specs.Stops.{PairReads, IsAmong, LeavesCommits}
 use Rattle.tm_machine.proofs.Resting.{stored_in, seen, state, pair, LeavesEitherStore, store_moments, none_made, one_made}
 use Rattle.tm_machine.proofs.VolumeLines.{failed_replies, failed_replied, is_none_of}

@@ -1,5 +1,5 @@
 -- What the lines that read the store answer.
-use Rattle.std.proofs.Common.{◌≡◌, ℕ, ◌==◌, ◌||◌, ◌+◌, ◌-◌, ◌<◌, suc, slice_get, arith, append_assoc, drop, get_or, is_some, length, take, IfSome, IsSomeAnd, Bor, if◌then◌else◌, Bool, true, false, cond, Option, Some, None, is_none, not, Result, Ok, Err, List, [], ◌∷◌, ◌++◌, map, refl, sym, ◌∙◌, ap, subst}
+use Rattle.std.proofs.Common.{◌≡◌, ℕ, ◌==◌, ◌||◌, ◌+◌, ◌-◌, ◌<◌, suc, slice_get, arith, append_assoc, drop, get_or, is_some, length, take, IfSome, IsSomeAnd, Bor, if◌then◌else◌, Bool, true, false, cond, Option, Some, None, not, Result, Ok, Err, List, [], ◌∷◌, ◌++◌, map, refl, sym, ◌∙◌, ap, subst}
 use Rattle.std.specs.List.{cons_option, filter_map, last_or, list_any}
 use Rattle.std.proofs.lemmas.List.{take_all, take_more}
 use Rattle.std.proofs.lemmas.List.Elements.{filter_map-append}
@@ -13,12 +13,10 @@ use Rattle.tm_reply.specs.declared.row.ReplyRow.{ReplyRow}
 use Rattle.tm_reply.specs.declared.row.ReplyRow.TheVariants as row
 use Rattle.tm_reply.specs.declared.row.ListedName.{ListedName}
 use Rattle.tm_reply.specs.declared.row.ListedName.TheVariants as called
-use Rattle.tm_text.specs.declared.place.StorePath.{StorePath}
 use Rattle.tm_text.specs.declared.place.StorePath.TheVariants as place
 use Rattle.tm_text.specs.declared.place.SnapshotAt.{SnapshotAt}
 use Rattle.tm_text.specs.declared.place.ItemAt.{ItemAt}
 use Rattle.tm_tree.specs.declared.item.Item.{Item}
-use Rattle.tm_tree.specs.declared.item.Item.TheVariants as item
 use Rattle.tm_tree.specs.declared.item.Labelled.{Labelled}
 use Rattle.tm_tree.specs.declared.node.Child.{Child}
 use Rattle.tm_tree.specs.declared.node.LeafRow.{LeafRow}
@@ -33,7 +31,6 @@ use Rattle.tm_tree.specs.Items.{attrs_of, is_folder}
 use Rattle.tm_tree.specs.Listings.{entries_of}
 use Rattle.tm_tree.specs.Refusing.{Tests, first_refused}
 use Rattle.tm_tree.specs.States.{StoreState, Snapshot, latest}
-use Rattle.tm_tree.specs.Trees.{Tree}
 use Rattle.tm_graph.specs.Nodes.{Nodes, node, entries_of as entries_in}
 use Rattle.tm_store_records.specs.declared.snapshot.Snapshot.{Snapshot as Row}
 use Rattle.tm_identity.specs.Stored.{body_length, node_length}
@@ -57,7 +54,7 @@ use Rattle.tm_machine.specs.Session.{Seen, state_on}
 use Rattle.tm_machine.specs.States.{store_in}
 use Rattle.tm_machine.proofs.Resting.{held_in}
 use Rattle.tm_machine.proofs.Reading.{contents_missing, content_folder, list_missing, lists, tells}
-use Rattle.tm_machine.specs.Queries.{attributes, leaf_in, content_row, content_rows, date_of, list_rows, read_item, child_line, child_lines, extra_rows, item_row, named_row, node_attributes, node_line, node_lines, shown_rows, path_row, date_row, snapshot_paths, latest_path, machine_rows, held_paths, held_dates, held_latest, held_machine, store_rows, named_snapshot, holding_snapshot, stored_tree}
+use Rattle.tm_machine.specs.Queries.{attributes, leaf_in, content_row, content_rows, date_of, list_rows, read_item, child_line, child_lines, extra_rows, item_row, named_row, node_attributes, node_line, node_lines, shown_rows, path_row, date_row, snapshot_paths, latest_path, held_paths, held_dates, held_latest, held_machine, store_rows, named_snapshot, holding_snapshot, stored_tree}
 use Rattle.tm_machine.specs.Steps.{content_tests, on_store, place_tests, snapshot_tests, stored_tests}
 
 -- the last of a list

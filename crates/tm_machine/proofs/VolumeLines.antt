@@ -1,5 +1,5 @@
 -- Lines that commit on the volume's side.
-use Rattle.std.proofs.Common.{◌≡◌, ◌≢◌, ◌⊎◌, ⊎_elim, ℕ, ◌≤◌, Bool, true, false, Option, Some, None, is_some, unwrap_or, nat_lt, Result, Ok, Err, List, [], ◌∷◌, ◌++◌, refl, sym, ◌∙◌, ap, subst, arith}
+use Rattle.std.proofs.Common.{◌≡◌, ◌≢◌, ◌⊎◌, ⊎_elim, ℕ, ◌≤◌, false, Option, Some, None, is_some, unwrap_or, nat_lt, Result, Ok, Err, List, [], ◌∷◌, ◌++◌, refl, sym, ◌∙◌, ap, subst, arith}
 use Rattle.std.proofs.lemmas.Bool.Decides.{nat_tests}
 use Rattle.tm_base.specs.declared.refused.LineFault.{LineFault}
 use Rattle.tm_base.specs.declared.refused.LineFault.TheVariants.{Refused as RefusedFor, Fault, Memory}
@@ -21,7 +21,7 @@ use Rattle.tm_volume.specs.Seen.{Seen as VolumeSeen, IsKept, IsReady, StandsOn, 
 use Rattle.tm_volume.specs.Stored.{StoredVolume, new_stored}
 use Rattle.tm_world.specs.Disk.{Disk, Image}
 use Rattle.tm_world.specs.Log.{Log, now}
-use Rattle.tm_world.specs.Outside.{Outside, disk, AreApart}
+use Rattle.tm_world.specs.Outside.{disk, AreApart}
 use Rattle.tm_world.specs.Runs.{Runs}
 use Rattle.tm_world.specs.declared.world.Side.{Side}
 use Rattle.tm_world.specs.declared.world.Side.TheVariants.{Volume as VolumeSide, Store as StoreSide}

@@ -1,17 +1,14 @@
 -- What a part of the session answers and leaves.
-use Rattle.std.specs.Prelude.{◌≡◌, ℕ, ◌<◌, ◌^◌, Option, Some, None, Result, Ok, Err, List, [], ◌∷◌}
+use Rattle.std.specs.Prelude.{◌≡◌, ℕ, Option, Some, None, Result, Ok, Err, List, [], ◌∷◌}
 use Rattle.tm_base.specs.declared.refused.LineFault.{LineFault}
 use Rattle.tm_base.specs.declared.refused.LineFault.TheVariants.{Refused as RefusedFor, Fault, Memory}
 use Rattle.tm_base.specs.declared.refused.Refused.{Refused}
 use Rattle.tm_reply.specs.declared.row.ReplyRow.{ReplyRow}
 use Rattle.std.specs.List.{filter_map}
-use Rattle.std.specs.Option.{option_map}
 use Rattle.tm_base.specs.Paths.{Names}
 use Rattle.tm_base.specs.declared.refused.Refused.TheVariants.{NoSnapshot}
 use Rattle.tm_graph.specs.Nodes.{Nodes, node, entries_of as entries_in}
 use Rattle.tm_store_records.specs.States.{item_on}
-use Rattle.tm_tree.specs.declared.item.Item.{Item}
-use Rattle.tm_tree.specs.declared.node.Child.{Child}
 use Rattle.tm_tree.specs.declared.node.NodeRow.{NodeRow}
 use Rattle.tm_tree.specs.Copies.{bare}
 use Rattle.tm_tree.specs.Listings.{entries_of}

@@ -2,10 +2,10 @@ pub mod States
 pub mod Queries
 pub mod Changing
 pub mod Steps
-pub mod Fitting
 pub mod Backups
 pub mod Answers
 pub mod Runs
 pub mod Commits
+pub mod Fitting
 pub mod Stops
 pub mod Session

@@ -2,8 +2,13 @@ pub mod CommandLemmas
 pub mod ScriptLemmas
 pub mod SayLemmas
 pub mod LoopLemmas
+pub mod PrefixLemmas
+pub mod MomentLemmas
 pub mod PairLemmas
+pub mod UntouchedLemmas
 pub mod SessionLemmas
 pub mod ImageLemmas
 pub mod OutcomeLemmas
+pub mod SurviveLemmas
 pub mod TopLemmas
+pub mod FitLemmas

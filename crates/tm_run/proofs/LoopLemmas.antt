@@ -7,7 +7,7 @@ use Rattle.tm_machine.specs.States.{State}
 use Rattle.tm_machine.specs.Steps.{reply, refusal, step}
 use Rattle.tm_machine.specs.Runs.{said_of, any_refused, state_after}
 
-lines_more : (lines : List Line) (i : ℕ) (l : Line) → i < length lines → l ≡ get_or lines i l → drop i lines ≡ l ∷ drop (i + 1) lines
+pub lines_more : (lines : List Line) (i : ℕ) (l : Line) → i < length lines → l ≡ get_or lines i l → drop i lines ≡ l ∷ drop (i + 1) lines
 lines_more lines i l low is = rw (add-one, drop-cons lines i l) (ap (λ (x : Line). x ∷ drop (suc i) lines) (sym is))
 
 pub said_more : (s t : State) (lines : List Line) (i : ℕ) (l : Line) → i < length lines → l ≡ get_or lines i l → t ≡ step s l

@@ -33,7 +33,7 @@ found_same p create s t same = ap (λ (d : Disk). if d.there then d else made cr
 volume_made : (p : List ℕ) (create : Option ℕ) (s : Outside) → (with_made p create s).volume ≡ s.volume
 volume_made p create s = elim ((s.stands (Some p)).there) as (λ b. (if b then s else put_at (Some p) (made create) s).volume ≡ s.volume) [ true ↦ refl | false ↦ refl ]
 
-said_made : (p : List ℕ) (create : Option ℕ) (s : Outside) → (with_made p create s).said ≡ s.said
+pub said_made : (p : List ℕ) (create : Option ℕ) (s : Outside) → (with_made p create s).said ≡ s.said
 said_made p create s = elim ((s.stands (Some p)).there) as (λ b. (if b then s else put_at (Some p) (made create) s).said ≡ s.said) [ true ↦ refl | false ↦ refl ]
 
 attached_apart : (v z : List ℕ) (create : Option ℕ) (s : Outside) → is_place (Some v) (Some z) ≡ false → AreApart (attached part.Store z create (attached part.Volume v create s))

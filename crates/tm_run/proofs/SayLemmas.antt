@@ -1,9 +1,12 @@
 -- What was said.
-use Rattle.std.proofs.Common.{◌≡◌, ℕ, List, ◌++◌, take, drop, length, length-append, Result, Ok, Err, OnOk, codes, refl, sym, ap, ◌∙◌, arith, append_assoc, append-nil, ◌+◌}
+use Rattle.std.proofs.Common.{◌≡◌, ℕ, List, ◌++◌, take, drop, length, length-append, Result, Ok, Err, OnOk, codes, refl, sym, ap, ◌∙◌, arith, ◌≤◌, subst, append_assoc, append-nil, ◌+◌}
 use Rattle.std.proofs.lemmas.List.{take_all, take-append-le, take-append-drop}
 use Rattle.std.proofs.Math.Seq.{take-append-add, drop-append_seam}
-use Rattle.tm_world.specs.Outside.{Outside, spoke}
-use Rattle.tm_world.specs.Log.{Log, now, Says}
+use Rattle.tm_world.specs.Outside.{Outside, disk, spoke}
+use Rattle.tm_world.specs.Log.{Log, now, Passes, Says}
+use Rattle.tm_world.specs.declared.world.Side.{Side as WorldSide}
+use Rattle.tm_world.specs.declared.world.Side.TheVariants.{Volume as VolumeSide, Store as StoreSide}
+use Rattle.tm_world.proofs.Going.{Passes-weaker}
 use Rattle.tm_world.proofs.Pairs.{Says-ends}
 use Rattle.tm_run.specs.Ends.{SaysAll, SaysPrefix}
 use Rattle.std.specs.Fmt.{decimal}
@@ -11,6 +14,7 @@ use Rattle.tm_base.specs.declared.refused.Side.{Side}
 use Rattle.tm_world.specs.declared.cause.Cause.{Cause}
 use Rattle.tm_run.specs.Outcomes.{bad_image_line, cause_word, side_word}
 use Rattle.tm_run.specs.Pairs.{KeepsPair}
+use Rattle.tm_run.specs.Stops.{Speaks}
 
 -- the line on a bad image, by its words
 pub bad_image_is : (s : Side) (c : Cause) (place : ℕ) (which why text : List ℕ) → which ≡ side_word s → why ≡ cause_word c
@@ -68,13 +72,23 @@ whole_more whole text rest old mid new next is = is ∙ sym (append_assoc mid.sa
 pub said_beside : (old new : Log) (bytes : List ℕ) (n : ℕ) → Says old new bytes n → KeepsPair (now old) (now new)
 said_beside old new bytes n says = let ends = Says-ends old new bytes n says in record { sides = ends.1; apart = ends.2 }
 
--- no image is another
-spoke_stands : (bytes : List ℕ) (s : Outside) → (spoke bytes s).stands ≡ s.stands
-unfolding spoke
-spoke_stands bytes s = refl
+same_sides : (bytes : List ℕ) (s : Outside) (side : WorldSide) → disk side (spoke bytes s) ≡ disk side s
+unfolding spoke disk
+same_sides bytes s VolumeSide = refl
+same_sides bytes s StoreSide = refl
 
-pub said_stands : (old new : Log) (bytes : List ℕ) (n : ℕ) → Says old new bytes n → (now new).stands ≡ (now old).stands
-said_stands old new bytes n says = ap (λ (s : Outside). s.stands) says.ends ∙ spoke_stands (take n bytes) (now old)
+-- at each moment a prefix was said, and nothing else is another
+spoke_speaks : (bytes : List ℕ) (s : Outside) (n m : ℕ) → n ≤ length bytes → m ≤ n → Speaks bytes s (spoke (take m bytes) s)
+unfolding spoke disk
+spoke_speaks bytes s n m within le = record {
+  said = record { count = m; within = omega (arith, le, within); part = refl };
+  pair = record { sides = same_sides (take m bytes) s; apart = λ apart. apart };
+  stands = refl;
+}
+
+pub speaks_at : (old new : Log) (bytes : List ℕ) (n : ℕ) → Says old new bytes n → Passes old new (Speaks bytes (now old))
+speaks_at old new bytes n says = Passes-weaker old new _ (Speaks bytes (now old))
+    (λ o p. subst (Speaks bytes (now old)) (sym p.2) (spoke_speaks bytes (now old) n p.0 says.within p.1)) says.passes
 
 -- what was said before is the same
 pub all_after : (text : List ℕ) (old mid new : Outside) → mid.said ≡ old.said → SaysAll text mid new → SaysAll text old new

@@ -1,8 +1,10 @@
 -- Reading a script, part by part.
-use Rattle.std.proofs.Common.{◌≡◌, ℕ, ◌≤◌, List, [], ◌++◌, take, drop, length, refl, sym, ap, ◌∙◌, append_assoc, Option, Some, None, IsSome, IfSome, unwrap_or, Result, Ok, Err, IfOk}
+use Rattle.std.proofs.Common.{◌≡◌, ℕ, ◌≤◌, List, [], ◌++◌, take, drop, length, refl, sym, ap, ◌∙◌, subst, append_assoc, Option, Some, None, IsSome, IfSome, unwrap_or, Result, Ok, Err, IfOk}
 use Rattle.std.proofs.lemmas.List.{take-append-drop}
+use Rattle.tm_world.specs.Log.{Log, now, Passes, Steps}
 use Rattle.tm_world.specs.Outside.{Outside, took, attached}
 use Rattle.tm_world.specs.declared.world.Part.TheVariants.{Script}
+use Rattle.tm_world.proofs.Going.{Passes-now, Passes-then, Passes-weaker}
 use Rattle.tm_run.specs.Scripts.{IsReading, Reads, ReadsAt, longest_script}
 use Rattle.tm_run.specs.declared.script.ScriptError.{ScriptError}
 
@@ -60,3 +62,14 @@ pub script_at : (path : List ℕ) (old mid : Outside) (result : Result (Option (
 script_at path old mid (Ok (Some script)) stands is short = (stands ∙ ap Some (sym is), short)
 script_at path old mid (Ok None) stands long short = record { script = mid.left; stands = stands; has = long }
 script_at path old mid (Err e) stands is short = tt
+
+-- ---- at each moment
+
+pub reading_steps : (old new : Log) (after : Outside) → Steps old new after → IsReading (now old) after → Passes old new (IsReading (now old))
+reading_steps old new after steps reading = Passes-weaker old new _ (IsReading (now old)) (λ s is. subst (IsReading (now old)) (sym is) reading) steps.passes
+
+-- one call after another
+pub reading_then : (old mid new : Log) → Passes old mid (IsReading (now old)) → Passes mid new (IsReading (now mid)) → Passes old new (IsReading (now old))
+reading_then old mid new first second =
+    let here : IsReading (now old) (now mid) = Passes-now old mid (IsReading (now old)) first (same_reads (now old)) in
+    Passes-then old mid new (IsReading (now old)) first (Passes-weaker mid new _ (IsReading (now old)) (λ o reading. reads_on (now old) (now mid) o here reading) second)

@@ -5,3 +5,5 @@ pub mod Pairs
 pub mod Outcomes
 pub mod Ends
 pub mod Readings
+pub mod Stops
+pub mod Fits

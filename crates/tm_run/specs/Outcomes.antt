@@ -5,7 +5,6 @@ use Rattle.tm_base.specs.declared.refused.Side.{Side}
 use Rattle.tm_base.specs.declared.refused.Side.TheVariants as side
 use Rattle.tm_world.specs.Disk.{Image}
 use Rattle.tm_world.specs.Outside.{Outside}
-use Rattle.tm_world.specs.Torn.{as_read}
 use Rattle.tm_world.specs.declared.cause.Cause.{Cause}
 use Rattle.tm_world.specs.declared.cause.Cause.TheVariants as cause
 use Rattle.tm_text.specs.declared.line.Line.{Line}
@@ -19,7 +18,7 @@ use Rattle.tm_machine.specs.Runs.{said_of, any_refused}
 use Rattle.tm_run.specs.declared.status.Status.{Status}
 use Rattle.tm_run.specs.declared.status.Status.TheVariants as status
 use Rattle.tm_run.specs.Command.{IsCommand, IsSomeCommand}
-use Rattle.tm_run.specs.Pairs.{AreSmall, found}
+use Rattle.tm_run.specs.Pairs.{AreSmall, image_at}
 use Rattle.tm_run.specs.Scripts.{longest_script}
 
 -- ---- the lines that a run says in place of replies
@@ -81,8 +80,8 @@ pub record IsStart (words : List (List ℕ)) (outside : Outside) (lines : List L
   pub stands : outside.scripts path ≡ Some script
   pub short : length script ≤ longest_script
   pub is_script : IsScript script lines
-  pub volume_is : v ≡ as_read (found volume create outside)
-  pub store_is : z ≡ as_read (found store create outside)
+  pub volume_is : v ≡ image_at volume create outside
+  pub store_is : z ≡ image_at store create outside
 
 -- these words, and the script and the images that stand at the paths which they name, give this status and say this
 pub data Outcome (words : List (List ℕ)) (outside : Outside) : Status → List ℕ → Type 0 where

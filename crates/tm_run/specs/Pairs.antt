@@ -10,6 +10,10 @@ use Rattle.tm_world.specs.declared.world.Side.TheVariants.{Volume as VolumeSide,
 abbrev pub found : List ℕ → Option ℕ → Outside → Disk
 found path create outside = if (outside.stands (Some path)).there then outside.stands (Some path) else made create
 
+-- as it reads
+abbrev pub image_at : List ℕ → Option ℕ → Outside → Image
+image_at path create outside = as_read (found path create outside)
+
 -- no image has more blocks than an image may have
 abbrev pub AreSmall : Outside → Type 0
 AreSmall outside = (place : Place) → (outside.stands place).count ≤ 262144

@@ -6,18 +6,18 @@ ghost use Rattle.tm_machine.specs.Fitting.{FitsAll};
 ghost use Rattle.tm_machine.specs.Runs.{any_refused, said_of, state_after};
 ghost use Rattle.tm_machine.specs.Session.{IsOpen, IsSynced, Standing, part_of, state_on};
 ghost use Rattle.tm_machine.specs.States.{kept};
-ghost use Rattle.tm_machine.specs.Stops.{LeavesPair};
+ghost use Rattle.tm_machine.specs.Stops.{LeavesPair, LeavesPrefix};
 ghost use Rattle.tm_text.specs.Bounds.{IsValidLine};
 ghost use Rattle.tm_world.specs.Disk.{Image};
 ghost use Rattle.tm_world.specs.Faults.{NeverLess, Rose};
-ghost use Rattle.tm_world.specs.Log.{now};
-ghost use Rattle.tm_world.specs.Torn.{as_read};
+ghost use Rattle.tm_world.specs.Log.{now, Passes};
 ghost use Rattle.tm_world.specs.declared.world.Part.{Part};
 ghost use Rattle.tm_world.specs.declared.world.Side.TheVariants.{Volume as VolumeSide, Store as StoreSide};
 ghost use Rattle.tm_run.specs.Ends.{GaveRan, IsDone, IsWhole, LeavesLast, SaysAll, SaysPrefix};
 ghost use Rattle.tm_run.specs.Outcomes.{FitsLines, Ran, done_status};
-ghost use Rattle.tm_run.specs.Pairs.{IsPair, found};
+ghost use Rattle.tm_run.specs.Pairs.{IsPair, image_at};
 ghost use Rattle.tm_run.specs.Readings.{IsEndOfLines};
+ghost use Rattle.tm_run.specs.Stops.{Survives};
 ghost use Rattle.tm_run.specs.declared.status.Status.{Status};
 
 use crate::command::Command;
@@ -53,10 +53,11 @@ fn run_session<W: World>(
     requires lines { All IsValidLine lines.now }
     requires open { IsOpen session.old (W.blocks world.old) }
     requires standing { W.told → Standing session.old (now (W.log world.old)) }
-    ensures whole { W.told → FitsAll (state_on session.old (now (W.log world.old))) lines.now → IsWhole result → result ≡ done_status (any_refused (state_on session.old (now (W.log world.old))) lines.now) }
-    ensures said { W.told → FitsAll (state_on session.old (now (W.log world.old))) lines.now → IsWhole result → SaysAll (said_of (state_on session.old (now (W.log world.old))) lines.now) (now (W.log world.old)) (now (W.log world.new)) }
-    ensures cut { W.told → FitsAll (state_on session.old (now (W.log world.old))) lines.now → SaysPrefix (said_of (state_on session.old (now (W.log world.old))) lines.now) (now (W.log world.old)) (now (W.log world.new)) }
-    ensures left { W.told → FitsAll (state_on session.old (now (W.log world.old))) lines.now → IsDone result → LeavesPair (kept (state_after (state_on session.old (now (W.log world.old))) lines.now)) (now (W.log world.new)) }
+    ensures whole { W.told → let s = state_on session.old (now (W.log world.old)) in FitsAll s lines.now → IsWhole result → result ≡ done_status (any_refused s lines.now) }
+    ensures said { W.told → let s = state_on session.old (now (W.log world.old)) in FitsAll s lines.now → IsWhole result → SaysAll (said_of s lines.now) (now (W.log world.old)) (now (W.log world.new)) }
+    ensures cut { W.told → let s = state_on session.old (now (W.log world.old)) in FitsAll s lines.now → SaysPrefix (said_of s lines.now) (now (W.log world.old)) (now (W.log world.new)) }
+    ensures left { W.told → let s = state_on session.old (now (W.log world.old)) in FitsAll s lines.now → IsDone result → LeavesPair (kept (state_after s lines.now)) (now (W.log world.new)) }
+    ensures any_moment { W.told → let s = state_on session.old (now (W.log world.old)) in FitsAll s lines.now → Passes (W.log world.old) (W.log world.new) (LeavesPrefix s lines.now (now (W.log world.old)).said) }
     ensures ends { IsEndOfLines result }
     ensures never_less { NeverLess (W.faults world.old) (W.faults world.new) }
     ensures fault { result ≡ Status.OutFault → Rose (W.faults world.old Part.Out) (W.faults world.new Part.Out) }
@@ -94,6 +95,7 @@ fn run_images<W: World>(
     ensures prefix { W.told → (v z : Image) → IsPair v z (now (W.log world.old)) → FitsLines v z lines.now → (status : Status) (text : List ℕ) → Ran v z lines.now status text
         → SaysPrefix text (now (W.log world.old)) (now (W.log world.new)) }
     ensures left { W.told → (v z : Image) → IsPair v z (now (W.log world.old)) → FitsLines v z lines.now → IsDone result → LeavesLast v z lines.now (now (W.log world.new)) }
+    ensures any_moment { W.told → (v z : Image) → IsPair v z (now (W.log world.old)) → FitsLines v z lines.now → Survives v z lines.now (W.log world.old) (W.log world.new) }
     ensures ends { IsEndOfLines result }
     ensures never_less { NeverLess (W.faults world.old) (W.faults world.new) }
     ensures fault { result ≡ Status.OutFault → Rose (W.faults world.old Part.Out) (W.faults world.new Part.Out) }
@@ -123,15 +125,14 @@ pub(crate) fn run_command<W: World>(
     requires create { ForSome command.create (λ n. (1 ≤ n) × (n ≤ 262144)) }
     requires differ { command.volume.now ≢ command.store.now }
     requires lines { All IsValidLine lines.now }
-    ensures outcome { W.told → FitsLines (as_read (found command.entry.volume.now command.entry.create (now (W.log world.old))))
-        (as_read (found command.entry.store.now command.entry.create (now (W.log world.old)))) lines.now → IsWhole result → GaveRan (as_read (found command.entry.volume.now command.entry.create (now (W.log world.old))))
-        (as_read (found command.entry.store.now command.entry.create (now (W.log world.old)))) lines.now (now (W.log world.old)) (now (W.log world.new)) result }
-    ensures prefix { W.told → FitsLines (as_read (found command.entry.volume.now command.entry.create (now (W.log world.old))))
-        (as_read (found command.entry.store.now command.entry.create (now (W.log world.old)))) lines.now → (status : Status) (text : List ℕ) → Ran (as_read (found command.entry.volume.now command.entry.create (now (W.log world.old))))
-        (as_read (found command.entry.store.now command.entry.create (now (W.log world.old)))) lines.now status text → SaysPrefix text (now (W.log world.old)) (now (W.log world.new)) }
-    ensures left { W.told → FitsLines (as_read (found command.entry.volume.now command.entry.create (now (W.log world.old))))
-        (as_read (found command.entry.store.now command.entry.create (now (W.log world.old)))) lines.now → IsDone result → LeavesLast (as_read (found command.entry.volume.now command.entry.create (now (W.log world.old))))
-        (as_read (found command.entry.store.now command.entry.create (now (W.log world.old)))) lines.now (now (W.log world.new)) }
+    ensures outcome { W.told → let old = now (W.log world.old) in let v = image_at command.entry.volume.now command.entry.create old in let z = image_at command.entry.store.now command.entry.create old in
+        FitsLines v z lines.now → IsWhole result → GaveRan v z lines.now old (now (W.log world.new)) result }
+    ensures prefix { W.told → let old = now (W.log world.old) in let v = image_at command.entry.volume.now command.entry.create old in let z = image_at command.entry.store.now command.entry.create old in
+        FitsLines v z lines.now → (status : Status) (text : List ℕ) → Ran v z lines.now status text → SaysPrefix text old (now (W.log world.new)) }
+    ensures left { W.told → let old = now (W.log world.old) in let v = image_at command.entry.volume.now command.entry.create old in let z = image_at command.entry.store.now command.entry.create old in
+        FitsLines v z lines.now → IsDone result → LeavesLast v z lines.now (now (W.log world.new)) }
+    ensures any_moment { W.told → let old = now (W.log world.old) in let v = image_at command.entry.volume.now command.entry.create old in let z = image_at command.entry.store.now command.entry.create old in
+        FitsLines v z lines.now → Survives v z lines.now (W.log world.old) (W.log world.new) }
     ensures ends { IsEndOfLines result }
     ensures never_less { NeverLess (W.faults world.old) (W.faults world.new) }
     ensures fault { result ≡ Status.OutFault → Rose (W.faults world.old Part.Out) (W.faults world.new Part.Out) }

@@ -1,6 +1,10 @@
-//! The law of outcomes.
+//! What the definitions of runs say together.
+//!
+//! Each function is empty; its contract is a law.
+ghost use Rattle.tm_run.specs.Fits.{MomentsFit, StartFits};
 ghost use Rattle.tm_run.specs.Outcomes.{OneOutcome, OneStart, StartsRun};
 
+use tm_machine::fit_lasts;
 use tm_store::laws::{sides_read_as_one, store_fails_once};
 use tm_text::{bad_is_outside, one_first_bad_line, one_meaning};
 use tm_volume::laws::{sides_read_as_one as volume_sides_read_as_one, volume_fails_once};
@@ -14,6 +18,19 @@ pub fn one_outcome()
     one_meaning();
     bad_is_outside();
     one_first_bad_line();
+    volume_sides_read_as_one();
+    volume_fails_once();
+    sides_read_as_one();
+    store_fails_once();
+}
+
+/// A run over a pair that fits leaves one that fits, whatever stops it: so the next run is over a
+/// pair that fits too.
+pub fn fit_carries()
+    ensures start { StartFits }
+    ensures moments { MomentsFit }
+{
+    fit_lasts();
     volume_sides_read_as_one();
     volume_fails_once();
     sides_read_as_one();

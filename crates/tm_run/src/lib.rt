@@ -11,6 +11,6 @@ mod script;
 mod status;
 mod top;
 
-pub use laws::one_outcome;
+pub use laws::{fit_carries, one_outcome};
 pub use status::Status;
 pub use top::run;

@@ -5,17 +5,19 @@ ghost use Rattle.tm_machine.specs.Fitting.{FitsAll, FitsFor};
 ghost use Rattle.tm_machine.specs.Session.{IsOpen, Standing, part_of, state_on};
 ghost use Rattle.tm_text.specs.Bounds.{IsValidLine};
 ghost use Rattle.tm_world.specs.declared.world.Part.{Part};
-ghost use Rattle.tm_world.specs.Log.{now};
+ghost use Rattle.tm_world.specs.Log.{now, Passes};
 ghost use Rattle.tm_world.specs.Faults.{Rose, NeverLess};
 ghost use Rattle.tm_machine.specs.Runs.{said_of, any_refused, state_after};
 ghost use Rattle.tm_machine.specs.Steps.{reply, refusal, step};
 ghost use Rattle.tm_reply.specs.Replies.{reply_text};
+ghost use Rattle.tm_machine.specs.Stops.{LeavesPrefix};
 ghost use Rattle.tm_run.specs.Ends.{SaysAll, SaysPrefix};
+ghost use Rattle.tm_run.specs.Stops.{LeavesLine};
 
 use crate::output::say;
 use std::alloc::{AllocError, Global};
 use tm_base::Side;
-use tm_machine::{LineEnd, Session};
+use tm_machine::{LineEnd, Session, commits_end, replies_are_some, session_is_left};
 use tm_reply::print;
 use tm_text::Line;
 use tm_world::{Failed, World};
@@ -61,10 +63,11 @@ fn run_line<W: World>(
     requires line { IsValidLine line.now }
     requires open { IsOpen session.old (W.blocks world.old) }
     requires standing { W.told → Standing session.old (now (W.log world.old)) }
-    ensures refused { W.told → FitsFor (state_on session.old (now (W.log world.old))) line.now → IfOk result (λ refused. refused ≡ is_some (refusal (state_on session.old (now (W.log world.old))) line.now)) }
-    ensures state { W.told → FitsFor (state_on session.old (now (W.log world.old))) line.now → OnOk result (state_on session.new (now (W.log world.new)) ≡ step (state_on session.old (now (W.log world.old))) line.now) }
-    ensures said { W.told → FitsFor (state_on session.old (now (W.log world.old))) line.now → OnOk result (SaysAll (reply_text (reply (state_on session.old (now (W.log world.old))) line.now)) (now (W.log world.old)) (now (W.log world.new))) }
-    ensures cut { W.told → FitsFor (state_on session.old (now (W.log world.old))) line.now → SaysPrefix (reply_text (reply (state_on session.old (now (W.log world.old))) line.now)) (now (W.log world.old)) (now (W.log world.new)) }
+    ensures refused { W.told → let s = state_on session.old (now (W.log world.old)) in FitsFor s line.now → IfOk result (λ refused. refused ≡ is_some (refusal s line.now)) }
+    ensures state { W.told → let s = state_on session.old (now (W.log world.old)) in FitsFor s line.now → OnOk result (state_on session.new (now (W.log world.new)) ≡ step s line.now) }
+    ensures said { W.told → let s = state_on session.old (now (W.log world.old)) in FitsFor s line.now → OnOk result (SaysAll (reply_text (reply s line.now)) (now (W.log world.old)) (now (W.log world.new))) }
+    ensures cut { W.told → let s = state_on session.old (now (W.log world.old)) in FitsFor s line.now → SaysPrefix (reply_text (reply s line.now)) (now (W.log world.old)) (now (W.log world.new)) }
+    ensures any_moment { W.told → let s = state_on session.old (now (W.log world.old)) in FitsFor s line.now → Passes (W.log world.old) (W.log world.new) (LeavesLine s line.now (now (W.log world.old))) }
     ensures open { OnOk result (IsOpen session.new (W.blocks world.new)) }
     ensures standing { W.told → OnOk result (Standing session.new (now (W.log world.new))) }
     ensures blocks { W.blocks world.new ≡ W.blocks world.old }
@@ -72,6 +75,7 @@ fn run_line<W: World>(
     ensures fault { result ≡ Err RunEnd.OutFault → Rose (W.faults world.old Part.Out) (W.faults world.new Part.Out) }
     ensures device { (side : Named) → result ≡ Err (RunEnd.Device side) → Rose (W.faults world.old (part_of side)) (W.faults world.new (part_of side)) }
 {
+    session_is_left();
     let reply = match session.line(world, line) {
         Ok(reply) => reply,
         Err(LineEnd::Fault(side)) => return Err(RunEnd::Device(side)),
@@ -95,10 +99,11 @@ pub(crate) fn run_lines<W: World>(
     requires lines { All IsValidLine lines.now }
     requires open { IsOpen session.old (W.blocks world.old) }
     requires standing { W.told → Standing session.old (now (W.log world.old)) }
-    ensures refused { W.told → FitsAll (state_on session.old (now (W.log world.old))) lines.now → IfOk result (λ refused. refused ≡ any_refused (state_on session.old (now (W.log world.old))) lines.now) }
-    ensures state { W.told → FitsAll (state_on session.old (now (W.log world.old))) lines.now → OnOk result (state_on session.new (now (W.log world.new)) ≡ state_after (state_on session.old (now (W.log world.old))) lines.now) }
-    ensures said { W.told → FitsAll (state_on session.old (now (W.log world.old))) lines.now → OnOk result (SaysAll (said_of (state_on session.old (now (W.log world.old))) lines.now) (now (W.log world.old)) (now (W.log world.new))) }
-    ensures cut { W.told → FitsAll (state_on session.old (now (W.log world.old))) lines.now → SaysPrefix (said_of (state_on session.old (now (W.log world.old))) lines.now) (now (W.log world.old)) (now (W.log world.new)) }
+    ensures refused { W.told → let s = state_on session.old (now (W.log world.old)) in FitsAll s lines.now → IfOk result (λ refused. refused ≡ any_refused s lines.now) }
+    ensures state { W.told → let s = state_on session.old (now (W.log world.old)) in FitsAll s lines.now → OnOk result (state_on session.new (now (W.log world.new)) ≡ state_after s lines.now) }
+    ensures said { W.told → let s = state_on session.old (now (W.log world.old)) in FitsAll s lines.now → OnOk result (SaysAll (said_of s lines.now) (now (W.log world.old)) (now (W.log world.new))) }
+    ensures cut { W.told → let s = state_on session.old (now (W.log world.old)) in FitsAll s lines.now → SaysPrefix (said_of s lines.now) (now (W.log world.old)) (now (W.log world.new)) }
+    ensures any_moment { W.told → let s = state_on session.old (now (W.log world.old)) in FitsAll s lines.now → Passes (W.log world.old) (W.log world.new) (LeavesPrefix s lines.now (now (W.log world.old)).said) }
     ensures open { OnOk result (IsOpen session.new (W.blocks world.new)) }
     ensures standing { W.told → OnOk result (Standing session.new (now (W.log world.new))) }
     ensures blocks { W.blocks world.new ≡ W.blocks world.old }
@@ -106,6 +111,8 @@ pub(crate) fn run_lines<W: World>(
     ensures fault { result ≡ Err RunEnd.OutFault → Rose (W.faults world.old Part.Out) (W.faults world.new Part.Out) }
     ensures device { (side : Named) → result ≡ Err (RunEnd.Device side) → Rose (W.faults world.old (part_of side)) (W.faults world.new (part_of side)) }
 {
+    commits_end();
+    replies_are_some();
     let mut refused = false;
     for line in lines {
         refused |= run_line(alloc, session, world, line)?;

@@ -1,12 +1,13 @@
 //! The bytes that are said.
 ghost use Rattle.std.specs.Prelude.{◌≡◌, ◌≢◌, ◌⊎◌, OnOk, OnErr};
 ghost use Rattle.tm_world.specs.declared.world.Part.{Part};
-ghost use Rattle.tm_world.specs.Log.{now};
+ghost use Rattle.tm_world.specs.Log.{now, Passes};
 ghost use Rattle.tm_world.specs.Faults.{Rose, NeverLess};
 ghost use Rattle.tm_run.specs.Ends.{SaysAll, SaysPrefix};
 ghost use Rattle.tm_run.specs.Outcomes.{bad_image_line, bad_line, cause_word, side_word};
 ghost use Rattle.tm_run.specs.Pairs.{KeepsPair};
 ghost use Rattle.tm_run.specs.Readings.{IsOneOf};
+ghost use Rattle.tm_run.specs.Stops.{Speaks};
 
 use crate::status::Status;
 use std::alloc::{AllocError, Global};
@@ -18,7 +19,7 @@ pub(crate) fn say<W: World>(world: &mut W, text: &[u8]) -> Result<(), Failed>
     ensures said { W.told → OnOk result (SaysAll text.now (now (W.log world.old)) (now (W.log world.new))) }
     ensures cut { W.told → SaysPrefix text.now (now (W.log world.old)) (now (W.log world.new)) }
     ensures pair { W.told → KeepsPair (now (W.log world.old)) (now (W.log world.new)) }
-    ensures images { W.told → (now (W.log world.new)).stands ≡ (now (W.log world.old)).stands }
+    ensures any_moment { W.told → Passes (W.log world.old) (W.log world.new) (Speaks text.now (now (W.log world.old))) }
     ensures blocks { W.blocks world.new ≡ W.blocks world.old }
     ensures never_less { NeverLess (W.faults world.old) (W.faults world.new) }
     ensures fault { OnErr result (Rose (W.faults world.old Part.Out) (W.faults world.new Part.Out)) }
@@ -31,7 +32,7 @@ pub(crate) fn say_last<W: World>(world: &mut W, text: &str, status: Status) -> S
     ensures status { (result ≡ status) ⊎ (result ≡ Status.OutFault) }
     ensures said { W.told → result ≢ Status.OutFault → SaysAll text.now (now (W.log world.old)) (now (W.log world.new)) }
     ensures cut { W.told → SaysPrefix text.now (now (W.log world.old)) (now (W.log world.new)) }
-    ensures images { W.told → (now (W.log world.new)).stands ≡ (now (W.log world.old)).stands }
+    ensures any_moment { W.told → Passes (W.log world.old) (W.log world.new) (Speaks text.now (now (W.log world.old))) }
     ensures blocks { W.blocks world.new ≡ W.blocks world.old }
     ensures never_less { NeverLess (W.faults world.old) (W.faults world.new) }
     ensures fault { status ≢ Status.OutFault → result ≡ Status.OutFault → Rose (W.faults world.old Part.Out) (W.faults world.new Part.Out) }
@@ -48,7 +49,7 @@ pub(crate) fn say_bad_line<W: World>(alloc: Global, world: &mut W, line: u64) ->
     ensures status { IsOneOf (Status.Script line) result }
     ensures said { W.told → result ≡ Status.Script line → SaysAll (bad_line line) (now (W.log world.old)) (now (W.log world.new)) }
     ensures cut { W.told → SaysPrefix (bad_line line) (now (W.log world.old)) (now (W.log world.new)) }
-    ensures images { W.told → (now (W.log world.new)).stands ≡ (now (W.log world.old)).stands }
+    ensures any_moment { W.told → Passes (W.log world.old) (W.log world.new) (Speaks (bad_line line) (now (W.log world.old))) }
     ensures blocks { W.blocks world.new ≡ W.blocks world.old }
     ensures never_less { NeverLess (W.faults world.old) (W.faults world.new) }
     ensures fault { result ≡ Status.OutFault → Rose (W.faults world.old Part.Out) (W.faults world.new Part.Out) }

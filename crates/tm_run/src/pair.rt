@@ -5,10 +5,10 @@ ghost use Rattle.tm_base.specs.declared.refused.Side.{Side as Named};
 ghost use Rattle.tm_machine.specs.Session.{IsSynced, part_of};
 ghost use Rattle.tm_world.specs.Disk.{Image};
 ghost use Rattle.tm_world.specs.Faults.{NeverLess, Rose};
-ghost use Rattle.tm_world.specs.Log.{now};
-ghost use Rattle.tm_world.specs.Torn.{as_read};
+ghost use Rattle.tm_world.specs.Log.{now, Passes};
 ghost use Rattle.tm_world.specs.declared.world.Side.TheVariants.{Volume as VolumeSide, Store as StoreSide};
-ghost use Rattle.tm_run.specs.Pairs.{IsPair, found};
+ghost use Rattle.tm_run.specs.Pairs.{IsPair, image_at};
+ghost use Rattle.tm_run.specs.Stops.{IsUntouched};
 
 use crate::command::Command;
 use tm_base::Side;
@@ -18,9 +18,10 @@ use tm_world::{Failed, Part, Side as ImageSide, World};
 fn attach_pair<W: World>(world: &mut W, command: Command<'_>) -> Result<(u32, u32), Side>
     requires create { ForSome command.create (λ n. (1 ≤ n) × (n ≤ 262144)) }
     requires differ { command.volume.now ≢ command.store.now }
-    ensures pair { W.told → OnOk result (IsPair (as_read (found command.entry.volume.now command.entry.create (now (W.log world.old))))
-        (as_read (found command.entry.store.now command.entry.create (now (W.log world.old)))) (now (W.log world.new))) }
+    ensures pair { W.told → let old = now (W.log world.old) in
+        OnOk result (IsPair (image_at command.entry.volume.now command.entry.create old) (image_at command.entry.store.now command.entry.create old) (now (W.log world.new))) }
     ensures said { W.told → (now (W.log world.new)).said ≡ (now (W.log world.old)).said }
+    ensures any_moment { W.told → Passes (W.log world.old) (W.log world.new) (IsUntouched (now (W.log world.old))) }
     ensures count { IfOk result (λ n. (W.blocks world.new VolumeSide ≡ n.0) × (n.0 ≤ 262144) × (W.blocks world.new StoreSide ≡ n.1) × (n.1 ≤ 262144)) }
     ensures never_less { NeverLess (W.faults world.old) (W.faults world.new) }
     ensures fault { (side : Named) → result ≡ Err side → Rose (W.faults world.old (part_of side)) (W.faults world.new (part_of side)) }
@@ -40,6 +41,7 @@ fn attach_pair<W: World>(world: &mut W, command: Command<'_>) -> Result<(u32, u3
 fn sync_pair<W: World>(world: &mut W) -> Result<(), Side>
     ensures pair { W.told → (v z : Image) → IsPair v z (now (W.log world.old)) → OnOk result (IsPair v z (now (W.log world.new)) × IsSynced (now (W.log world.new))) }
     ensures said { W.told → (now (W.log world.new)).said ≡ (now (W.log world.old)).said }
+    ensures any_moment { W.told → Passes (W.log world.old) (W.log world.new) (IsUntouched (now (W.log world.old))) }
     ensures blocks { W.blocks world.new ≡ W.blocks world.old }
     ensures never_less { NeverLess (W.faults world.old) (W.faults world.new) }
     ensures fault { (side : Named) → result ≡ Err side → Rose (W.faults world.old (part_of side)) (W.faults world.new (part_of side)) }
@@ -59,10 +61,11 @@ fn sync_pair<W: World>(world: &mut W) -> Result<(), Side>
 pub(crate) fn open_pair<W: World>(world: &mut W, command: Command<'_>) -> Result<(u32, u32), Side>
     requires create { ForSome command.create (λ n. (1 ≤ n) × (n ≤ 262144)) }
     requires differ { command.volume.now ≢ command.store.now }
-    ensures pair { W.told → OnOk result (IsPair (as_read (found command.entry.volume.now command.entry.create (now (W.log world.old))))
-        (as_read (found command.entry.store.now command.entry.create (now (W.log world.old)))) (now (W.log world.new))) }
+    ensures pair { W.told → let old = now (W.log world.old) in
+        OnOk result (IsPair (image_at command.entry.volume.now command.entry.create old) (image_at command.entry.store.now command.entry.create old) (now (W.log world.new))) }
     ensures synced { W.told → OnOk result (IsSynced (now (W.log world.new))) }
     ensures said { W.told → (now (W.log world.new)).said ≡ (now (W.log world.old)).said }
+    ensures any_moment { W.told → Passes (W.log world.old) (W.log world.new) (IsUntouched (now (W.log world.old))) }
     ensures count { IfOk result (λ n. (W.blocks world.new VolumeSide ≡ n.0) × (n.0 ≤ 262144) × (W.blocks world.new StoreSide ≡ n.1) × (n.1 ≤ 262144)) }
     ensures never_less { NeverLess (W.faults world.old) (W.faults world.new) }
     ensures fault { (side : Named) → result ≡ Err side → Rose (W.faults world.old (part_of side)) (W.faults world.new (part_of side)) }

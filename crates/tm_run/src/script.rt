@@ -1,7 +1,7 @@
 //! The script, read to its end.
 ghost use Rattle.std.specs.Prelude.{◌≡◌, ◌≤◌, ◌+◌, ◌++◌, [], IfOk, IfSome, OnOk, OnErr, Err, Some, length, take, drop, vec_len};
 ghost use Rattle.tm_world.specs.declared.world.Part.{Part};
-ghost use Rattle.tm_world.specs.Log.{now};
+ghost use Rattle.tm_world.specs.Log.{now, Passes};
 ghost use Rattle.tm_world.specs.Faults.{Rose, NeverLess};
 ghost use Rattle.tm_run.specs.Scripts.{IsReading, Reads, ReadsAt, longest_script};
 
@@ -47,6 +47,7 @@ impl From<Failed> for ScriptError {
 fn attach_script<W: World>(world: &mut W, path: &str) -> Result<(), Failed>
     ensures script { W.told → OnOk result ((now (W.log world.old)).scripts path.now ≡ Some (now (W.log world.new)).left) }
     ensures reading { W.told → IsReading (now (W.log world.old)) (now (W.log world.new)) }
+    ensures any_moment { W.told → Passes (W.log world.old) (W.log world.new) (IsReading (now (W.log world.old))) }
     ensures blocks { W.blocks world.new ≡ W.blocks world.old }
     ensures never_less { NeverLess (W.faults world.old) (W.faults world.new) }
     ensures fault { OnErr result (Rose (W.faults world.old Part.Script) (W.faults world.new Part.Script)) }
@@ -64,6 +65,7 @@ fn take_part<W: World>(world: &mut W, script: &mut Vec<u8>) -> Result<usize, Scr
     ensures left { W.told → IfOk result (λ n. (now (W.log world.new)).left ≡ drop n (now (W.log world.old)).left) }
     ensures end { W.told → IfOk result (λ n. n ≡ 0 → (now (W.log world.old)).left ≡ []) }
     ensures reading { W.told → IsReading (now (W.log world.old)) (now (W.log world.new)) }
+    ensures any_moment { W.told → Passes (W.log world.old) (W.log world.new) (IsReading (now (W.log world.old))) }
     ensures blocks { W.blocks world.new ≡ W.blocks world.old }
     ensures never_less { NeverLess (W.faults world.old) (W.faults world.new) }
     ensures fault { result ≡ Err ScriptError.Fault → Rose (W.faults world.old Part.Script) (W.faults world.new Part.Script) }
@@ -80,6 +82,7 @@ fn take_part<W: World>(world: &mut W, script: &mut Vec<u8>) -> Result<usize, Scr
 fn read_left<W: World>(alloc: Global, world: &mut W) -> Result<Option<Bytes>, ScriptError>
     ensures reads { W.told → Reads (now (W.log world.old)) result }
     ensures reading { W.told → IsReading (now (W.log world.old)) (now (W.log world.new)) }
+    ensures any_moment { W.told → Passes (W.log world.old) (W.log world.new) (IsReading (now (W.log world.old))) }
     ensures short { IfOk result (λ script. IfSome script (λ bytes. length bytes ≤ longest_script)) }
     ensures blocks { W.blocks world.new ≡ W.blocks world.old }
     ensures never_less { NeverLess (W.faults world.old) (W.faults world.new) }
@@ -102,6 +105,7 @@ pub(crate) fn read_script<W: World>(
 ) -> Result<Option<Bytes>, ScriptError>
     ensures script { W.told → ReadsAt (now (W.log world.old)) path.now result }
     ensures reading { W.told → IsReading (now (W.log world.old)) (now (W.log world.new)) }
+    ensures any_moment { W.told → Passes (W.log world.old) (W.log world.new) (IsReading (now (W.log world.old))) }
     ensures blocks { W.blocks world.new ≡ W.blocks world.old }
     ensures never_less { NeverLess (W.faults world.old) (W.faults world.new) }
     ensures fault { result ≡ Err ScriptError.Fault → Rose (W.faults world.old Part.Script) (W.faults world.new Part.Script) }

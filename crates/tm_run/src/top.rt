@@ -1,13 +1,14 @@
 //! The top call.
 ghost use Rattle.std.specs.Prelude.{◌≡◌, ◌⊎◌, ℕ, List, All, Err, IfOk};
 ghost use Rattle.tm_world.specs.declared.world.Part.{Part};
-ghost use Rattle.tm_world.specs.Log.{now};
+ghost use Rattle.tm_world.specs.Log.{now, Passes};
 ghost use Rattle.tm_world.specs.Faults.{Rose, NeverLess};
 ghost use Rattle.tm_base.specs.declared.refused.Side.{Side as Named};
 ghost use Rattle.tm_machine.specs.Session.{part_of};
 ghost use Rattle.tm_text.specs.Bounds.{IsValidLine};
 ghost use Rattle.tm_run.specs.Command.{texts, IsSomeCommand};
 ghost use Rattle.tm_run.specs.Scripts.{IsReading};
+ghost use Rattle.tm_run.specs.Stops.{RunSurvives};
 ghost use Rattle.tm_run.specs.Outcomes.{FitsRun, Outcome};
 ghost use Rattle.tm_run.specs.Readings.{ReadsLines};
 ghost use Rattle.tm_run.specs.Ends.{IsBefore, IsDone, IsWhole, LeavesEnd, SaysPrefix, GaveOutcome};
@@ -46,8 +47,11 @@ pub fn run<W: World>(alloc: Global, words: &[String], world: &mut W) -> Status
     // Whatever a stop leaves after the last line reads as what is kept of the last state.
     ensures left { W.told → FitsRun (texts words.now) (now (W.log world.old)) → IsDone result → LeavesEnd (texts words.now) (now (W.log world.old)) (now (W.log world.new)) }
 
-    // A run that ends before the images are attached leaves all images as they were.
-    ensures images { W.told → IsBefore result → (now (W.log world.new)).stands ≡ (now (W.log world.old)).stands }
+    // Whatever a stop leaves at any moment reads as what is kept after a prefix of the commits, which has those of each line whose reply was said.
+    ensures any_moment { W.told → FitsRun (texts words.now) (now (W.log world.old)) → RunSurvives (texts words.now) (W.log world.old) (W.log world.new) }
+
+    // A run that ends before the images are attached leaves all images as they were, at each moment.
+    ensures images { W.told → IsBefore result → Passes (W.log world.old) (W.log world.new) (λ o. o.stands ≡ (now (W.log world.old)).stands) }
     ensures blocks { IsBefore result → W.blocks world.new ≡ W.blocks world.old }
 
     // The causes of each status, also where contents are not told.
@@ -89,6 +93,7 @@ fn read_lines<W: World>(alloc: Global, world: &mut W, path: &str) -> Result<Line
     ensures lines { W.told → ReadsLines (now (W.log world.old)) path.now result }
     ensures valid { IfOk result (λ lines. All IsValidLine lines) }
     ensures reading { W.told → IsReading (now (W.log world.old)) (now (W.log world.new)) }
+    ensures any_moment { W.told → Passes (W.log world.old) (W.log world.new) (IsReading (now (W.log world.old))) }
     ensures blocks { W.blocks world.new ≡ W.blocks world.old }
     ensures never_less { NeverLess (W.faults world.old) (W.faults world.new) }
     ensures fault { result ≡ Err ScriptEnd.Fault → Rose (W.faults world.old Part.Script) (W.faults world.new Part.Script) }

@@ -1,4 +1,4 @@
-use Rattle.std.proofs.Common.{◌≡◌, ◌≤◌, ◌-◌, ℕ, Some, None, Result, Err, List, [], ◌∷◌, ◌++◌, refl, sym, ◌∙◌, ap, arith, subst, length}
+use Rattle.std.proofs.Common.{◌≡◌, ◌-◌, ℕ, Result, Err, List, [], ◌∷◌, ◌++◌, refl, sym, ◌∙◌, ap, arith, subst}
 use Rattle.std.proofs.lemmas.Result.{err_from_is_err_and}
 use Rattle.tm_backup.specs.declared.Copied.{Copied}
 use Rattle.tm_base.specs.declared.refused.LineFault.{LineFault}
@@ -12,9 +12,8 @@ use Rattle.tm_tree.specs.declared.rows.Mark.{Mark}
 use Rattle.tm_volume.specs.Seen.{Seen as VolumeSeen, stored_on as volume_stored_on}
 use Rattle.tm_world.specs.Log.{now}
 use Rattle.tm_world.specs.Outside.{disk}
-use Rattle.tm_world.specs.Runs.{Runs}
 use Rattle.tm_world.specs.declared.world.Side.TheVariants.{Volume as VolumeSide, Store as StoreSide}
-use Rattle.tm_machine.specs.Backups.{AnswersCopy, finishes_as}
+use Rattle.tm_machine.specs.Backups.{AnswersCopy}
 use Rattle.tm_machine.proofs.CopyLemmas.{at_date, copy_moments, copy_answers, finish_moments, refused_answers, done_answers, runs_alone}
 use Rattle.tm_machine.proofs.backup.copy_and_finish.Goals as goal
 

@@ -1,10 +1,7 @@
-use Rattle.std.proofs.Common.{◌≡◌, ℕ, Some, None, Ok, Err, List, [], ◌∷◌, refl, sym, ◌∙◌, ap, subst}
-use Rattle.tm_base.specs.declared.refused.LineFault.TheVariants.{Refused as RefusedFor}
+use Rattle.std.proofs.Common.{ℕ, Ok, Err, ap, subst}
 use Rattle.tm_store_records.specs.Held.{store_on, stored_on}
 use Rattle.tm_store_records.specs.States.{LeavesStore}
-use Rattle.tm_tree.specs.States.{StoreState}
 use Rattle.tm_volume.specs.Seen.{stored_on as volume_stored_on}
-use Rattle.tm_volume.specs.Stored.{StoredVolume}
 use Rattle.tm_world.specs.Log.{now}
 use Rattle.tm_world.specs.Outside.{disk}
 use Rattle.tm_world.specs.Runs.{Runs}

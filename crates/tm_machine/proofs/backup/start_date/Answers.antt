@@ -1,4 +1,4 @@
-use Rattle.std.proofs.Common.{◌≡◌, ◌<◌, ℕ, List, Option, Some, Result, Err, length, sym, ◌∙◌, ap, arith, subst}
+use Rattle.std.proofs.Common.{◌<◌, ℕ, List, Option, Result, Err, length, sym, ◌∙◌, ap, arith, subst}
 use Rattle.std.proofs.lemmas.Result.{err_from_is_err_and}
 use Rattle.tm_base.specs.declared.refused.Refused.{Refused}
 use Rattle.tm_store_records.specs.declared.snapshot.Snapshot.{Snapshot}

@@ -1,4 +1,4 @@
-use Rattle.tm_machine.proofs.Resting.{AtRest, rest_leaves}
+use Rattle.tm_machine.proofs.Resting.{rest_leaves}
 use Rattle.tm_machine.proofs.laws.session_is_left.Goals as goal
 
 pub returns : goal.returns

@@ -3,7 +3,6 @@ use Rattle.tm_base.specs.Paths.{Names}
 use Rattle.tm_tree.specs.Walks.{walk}
 use Rattle.tm_volume.specs.Answers.{FindsRow}
 use Rattle.tm_volume.specs.Seen.{tree_on}
-use Rattle.tm_machine.proofs.ListingLemmas.{entry_at}
 use Rattle.tm_machine.proofs.listing.find_entry.Goals as goal
 
 pub returns-in-Ok : goal.returns-in-Ok

@@ -1,4 +1,4 @@
-use Rattle.std.proofs.Common.{rules, ◌≡◌, Err, [], ◌∷◌, ◌++◌}
+use Rattle.std.proofs.Common.{rules, ◌≡◌, [], ◌∷◌, ◌++◌}
 use Rattle.tm_base.specs.declared.refused.LineFault.TheVariants as fault
 use Rattle.tm_tree.specs.Walks.{walk}
 use Rattle.tm_volume.specs.Seen.{tree_on}

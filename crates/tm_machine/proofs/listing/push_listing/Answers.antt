@@ -1,4 +1,3 @@
-use Rattle.std.proofs.Common.{◌≡◌}
 use Rattle.tm_volume.specs.Seen.{tree_on}
 use Rattle.tm_machine.proofs.ListingLemmas.{pushed_none, pushed_some, pushed_unrefused, unlooked_tree}
 use Rattle.tm_machine.proofs.listing.push_listing.Goals as goal

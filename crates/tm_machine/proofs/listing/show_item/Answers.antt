@@ -1,4 +1,4 @@
-use Rattle.std.proofs.Common.{rules, ◌≡◌, ◌++◌, Err, ap, ◌∙◌}
+use Rattle.std.proofs.Common.{rules, ◌++◌, Err, ap, ◌∙◌}
 use Rattle.tm_tree.specs.declared.attrs.Attrs.{Attrs}
 use Rattle.tm_volume.specs.Seen.{tree_on}
 use Rattle.tm_machine.specs.Queries.{extra_rows}

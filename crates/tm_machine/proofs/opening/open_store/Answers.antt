@@ -1,4 +1,4 @@
-use Rattle.std.proofs.Common.{◌≡◌, ◌∙◌, Some, Err, ap}
+use Rattle.std.proofs.Common.{◌∙◌, Some, Err, ap}
 use Rattle.tm_store_records.specs.Held.{stored_on as store_stored_on}
 use Rattle.tm_world.specs.Log.{now}
 use Rattle.tm_world.specs.Outside.{Outside, disk}

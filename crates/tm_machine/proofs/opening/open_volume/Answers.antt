@@ -1,4 +1,4 @@
-use Rattle.std.proofs.Common.{Some, Option, Err, ap, sym, ◌∙◌}
+use Rattle.std.proofs.Common.{Some, Option, Err, ap, ◌∙◌}
 use Rattle.std.specs.Option.{option_map}
 use Rattle.tm_world.specs.Log.{now}
 use Rattle.tm_world.specs.Outside.{disk}

@@ -1,4 +1,4 @@
-use Rattle.std.proofs.Common.{◌≡◌, [], ℕ, Option, Some, Ok, Err, IsSomeAnd, sym, subst, ap, ◌∙◌}
+use Rattle.std.proofs.Common.{◌≡◌, [], ℕ, Option, Some, Ok, Err, IsSomeAnd, sym, subst}
 use Rattle.tm_graph.specs.Nodes.{Nodes, IsGraph, node}
 use Rattle.tm_graph.specs.Trees.{number_at}
 use Rattle.tm_store.specs.Finding.{Looks, held_under}

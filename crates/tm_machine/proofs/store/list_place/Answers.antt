@@ -1,8 +1,6 @@
-use Rattle.std.proofs.Common.{rules, ◌≡◌, true, ◌∙◌, ℕ, List, Some, None, Ok, Err, ap, sym, subst}
+use Rattle.std.proofs.Common.{rules, ◌≡◌, true, ◌∙◌, Some, Ok, ap, sym, subst}
 use Rattle.tm_store_records.specs.Held.{store_on}
-use Rattle.tm_store_records.specs.declared.snapshot.Snapshot.{Snapshot}
 use Rattle.tm_text.specs.declared.place.StorePath.{StorePath}
-use Rattle.tm_text.specs.declared.place.StorePath.TheVariants as place
 use Rattle.tm_base.specs.declared.refused.Refused.TheVariants.{NoSnapshot}
 use Rattle.tm_base.specs.Paths.{same_name}
 use Rattle.tm_store.specs.Finding.{held_at}

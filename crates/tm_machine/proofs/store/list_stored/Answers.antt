@@ -1,4 +1,4 @@
-use Rattle.std.proofs.Common.{◌≡◌, ◌∙◌, ap, sym}
+use Rattle.std.proofs.Common.{◌∙◌, ap}
 use Rattle.tm_store_records.specs.Held.{files_of, store_on}
 use Rattle.tm_graph.specs.Nodes.{Nodes}
 use Rattle.tm_machine.specs.Queries.{holding_snapshot, list_rows, node_lines, stored_tree}

@@ -1,4 +1,4 @@
-use Rattle.std.proofs.Common.{◌≡◌, ◌++◌, map, take}
+use Rattle.std.proofs.Common.{◌≡◌, take}
 use Rattle.tm_machine.specs.Queries.{held_dates}
 use Rattle.tm_machine.proofs.store.snapshot_dates.Given as goal
 

@@ -1,4 +1,4 @@
-use Rattle.std.proofs.Common.{◌≡◌, ◌++◌, map, take}
+use Rattle.std.proofs.Common.{◌≡◌, take}
 use Rattle.tm_machine.specs.Queries.{held_paths}
 use Rattle.tm_machine.proofs.store.snapshot_paths.Given as goal
 

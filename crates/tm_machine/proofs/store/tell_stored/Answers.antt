@@ -1,10 +1,7 @@
-use Rattle.std.proofs.Common.{◌≡◌, ◌∙◌, ℕ, Option, Some, IfSome, is_some, ap, sym, subst}
-use Rattle.tm_graph.specs.Nodes.{node}
-use Rattle.tm_identity.specs.Stored.{body_length, node_length}
+use Rattle.std.proofs.Common.{◌∙◌, is_some, ap}
 use Rattle.tm_store_records.specs.Held.{files_of, store_on}
 use Rattle.tm_tree.specs.declared.node.LeafRow.{LeafRow}
 use Rattle.tm_tree.specs.declared.node.NodeBody.TheVariants.{Leaf}
-use Rattle.tm_tree.specs.declared.node.NodeRow.{NodeRow}
 use Rattle.tm_world.specs.Log.{now}
 use Rattle.tm_world.specs.Outside.{disk}
 use Rattle.tm_world.specs.declared.world.Side.TheVariants.{Store as StoreSide}

@@ -1,4 +1,3 @@
-use Rattle.std.proofs.Common.{◌∙◌, sym, ap, ◌++◌, take}
 use Rattle.tm_machine.proofs.StoredLemmas.{child_lines_more}
 use Rattle.tm_machine.proofs.stored.push_children.Goals as goal
 

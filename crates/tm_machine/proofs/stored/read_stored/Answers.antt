@@ -1,8 +1,7 @@
-use Rattle.std.proofs.Common.{arith, ◌≡◌, length, sym, ap, ◌∙◌}
+use Rattle.std.proofs.Common.{arith, length, ap, ◌∙◌}
 use Rattle.tm_world.specs.Log.{now}
 use Rattle.tm_world.specs.Outside.{disk}
 use Rattle.tm_world.specs.declared.world.Side.TheVariants.{Store as StoreSide}
-use Rattle.tm_graph.specs.Nodes.{node}
 use Rattle.tm_machine.proofs.ListingLemmas.{filled}
 use Rattle.tm_machine.proofs.StoredLemmas.{whole_file}
 use Rattle.tm_machine.proofs.stored.read_stored.Goals as goal

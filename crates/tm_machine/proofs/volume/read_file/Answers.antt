@@ -1,4 +1,4 @@
-use Rattle.std.proofs.Common.{arith, ◌≡◌, length, sym, ap, ◌∙◌}
+use Rattle.std.proofs.Common.{arith, length, ap, ◌∙◌}
 use Rattle.tm_world.specs.Log.{now}
 use Rattle.tm_world.specs.Outside.{disk}
 use Rattle.tm_world.specs.declared.world.Side.TheVariants.{Volume as VolumeSide}

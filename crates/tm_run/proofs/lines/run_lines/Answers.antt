@@ -10,6 +10,8 @@ use Rattle.tm_machine.specs.Steps.{reply, step}
 use Rattle.tm_machine.specs.Runs.{said_of}
 use Rattle.tm_run.proofs.SayLemmas.{prefix_more, whole_more}
 use Rattle.tm_run.proofs.LoopLemmas.{fits_more, said_more, refused_more, state_more}
+use Rattle.tm_run.proofs.MomentLemmas.{SoFar, head_of, one_left, one_more}
+use Rattle.tm_run.proofs.PrefixLemmas.{MachineLaws}
 use Rattle.tm_run.proofs.lines.run_lines.Goals as goal
 
 pub run_line-requires-clause-line : goal.run_line-requires-clause-line
@@ -34,6 +36,23 @@ returns-in_err-refused-clause-cut g c told fits =
     (c.loop-line.invariant.cut told fits) (c.in_err-refused.ensures.cut told here.0)
     (c.loop-line.invariant.said told fits ∙ ap (λ (t : List ℕ). mid.said ++ t) more)
 
+pub returns-in_err-refused-clause-any_moment : goal.returns-in_err-refused-clause-any_moment
+returns-in_err-refused-clause-any_moment g c told fits =
+    let start = g.W.World.log c.args.world.now in
+    let mid = g.W.World.log c.loop-line.world in
+    let s = state_on c.loop-line.session (now mid) in
+    let i = c.loop-line.line-index in
+    let line = c.line-item.result in
+    let low : i < length c.args.lines.now = omega arith in
+    let laws : MachineLaws = record { some = c.replies_are_some.ensures; last = c.commits_end.ensures.line } in
+    let here = fits_more s c.args.lines.now i line low c.line-item.is (c.loop-line.invariant.fits told fits) in
+    let s0 = state_on c.args.session.now (now start) in
+    let so_far = head_of start s0 c.args.lines.now mid s i line low c.line-item.is (c.loop-line.invariant.so_far told fits) in
+    one_left start s0 c.args.lines.now laws mid (g.W.World.log c.run_line.new.world) s line (drop (i + 1) c.args.lines.now) so_far (c.in_err-refused.ensures.any_moment told here.0)
+
+pub returns-clause-any_moment : goal.returns-clause-any_moment
+returns-clause-any_moment g c told fits = (c.loop-line.invariant.so_far told fits).passes
+
 pub loop-line-preserved : goal.loop-line-preserved
 loop-line-preserved g c =
     let start = now (g.W.World.log c.args.world.now) in
@@ -48,6 +67,11 @@ loop-line-preserved g c =
     let rest = said_of t (drop (i + 1) c.args.lines.now) in
     let inv = c.loop-line.invariant in
     let here = λ (told : g.W.World.told) (fits : FitsAll (state_on c.args.session.now start) c.args.lines.now). fits_more s c.args.lines.now i line low c.line-item.is (inv.fits told fits) in
+    let laws : MachineLaws = record { some = c.replies_are_some.ensures; last = c.commits_end.ensures.line } in
+    let s0 = state_on c.args.session.now start in
+    let from = g.W.World.log c.args.world.now in
+    let between = g.W.World.log c.loop-line.world in
+    let ends = g.W.World.log c.run_line.new.world in
     let after = λ (told : g.W.World.told) (fits : FitsAll (state_on c.args.session.now start) c.args.lines.now). c.in_ok-refused.ensures.state told (here told fits).0 in
     record {
       «open» = c.in_ok-refused.ensures.open;
@@ -58,6 +82,9 @@ loop-line-preserved g c =
           (inv.said told fits ∙ ap (λ (u : List ℕ). mid.said ++ u) (said_more s t c.args.lines.now i line low c.line-item.is (after told fits)));
       cut = λ told fits. prefix_more whole (reply_text (reply s line)) rest start mid end (inv.cut told fits) (c.in_ok-refused.ensures.cut told (here told fits).0)
           (inv.said told fits ∙ ap (λ (u : List ℕ). mid.said ++ u) (said_more s t c.args.lines.now i line low c.line-item.is (after told fits)));
+      so_far = λ told fits. subst (λ (x : State). SoFar from s0 c.args.lines.now ends x (drop (i + 1) c.args.lines.now)) (sym (after told fits))
+          (one_more from s0 c.args.lines.now laws between ends s line (drop (i + 1) c.args.lines.now) (head_of from s0 c.args.lines.now between s i line low c.line-item.is (inv.so_far told fits))
+          (c.in_ok-refused.ensures.any_moment told (here told fits).0) (c.in_ok-refused.ensures.said told (here told fits).0));
       fits = λ told fits. subst (λ (x : State). FitsAll x (drop (i + 1) c.args.lines.now)) (sym (after told fits)) (here told fits).1;
       blocks = c.in_ok-refused.ensures.blocks ∙ inv.blocks;
       faults = λ part. omega (arith, c.in_ok-refused.ensures.never_less part, inv.faults part);

@@ -1,4 +1,4 @@
-use Rattle.tm_run.proofs.SayLemmas.{said_whole, said_part, said_beside, said_stands}
+use Rattle.tm_run.proofs.SayLemmas.{said_beside, said_part, said_whole, speaks_at}
 use Rattle.tm_run.proofs.output.say.Goals as goal
 
 pub returns-clause-said : goal.returns-clause-said
@@ -16,7 +16,7 @@ returns-clause-pair g c told =
     let says = c.say.ensures.says told in
     said_beside (g.W.World.log c.args.world.now) (g.W.World.log c.say.new.self) c.args.text.now says.0 says.2
 
-pub returns-clause-images : goal.returns-clause-images
-returns-clause-images g c told =
+pub returns-clause-any_moment : goal.returns-clause-any_moment
+returns-clause-any_moment g c told =
     let says = c.say.ensures.says told in
-    said_stands (g.W.World.log c.args.world.now) (g.W.World.log c.say.new.self) c.args.text.now says.0 says.2
+    speaks_at (g.W.World.log c.args.world.now) (g.W.World.log c.say.new.self) c.args.text.now says.0 says.2

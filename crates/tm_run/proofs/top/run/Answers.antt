@@ -1,4 +1,4 @@
-use Rattle.std.proofs.Common.{◌≡◌, ℕ, subst, ◌∙◌}
+use Rattle.std.proofs.Common.{◌≡◌, ℕ, subst}
 use Rattle.tm_world.specs.Log.{now}
 use Rattle.tm_world.specs.Torn.{as_read}
 use Rattle.tm_run.specs.Command.{texts}
@@ -8,6 +8,7 @@ use Rattle.tm_run.specs.Ends.{SaysAll, SaysPrefix}
 use Rattle.tm_run.specs.Readings.{IsOneOf}
 use Rattle.tm_run.specs.declared.status.Status.TheVariants as status
 use Rattle.tm_run.proofs.TopLemmas.{same_outside, gave, says_a_prefix, no_fault, ends_well, ends_as, not_before, not_done, not_done_as, of_long, of_bad, start_of, gave_run, run_prefix, run_left}
+use Rattle.tm_run.proofs.SurviveLemmas.{later_survives, none_survives, reading_moments, reading_stand, reading_survives, run_survives, script_survives, speaks_stand, words_stand}
 use Rattle.tm_run.proofs.top.run.Goals as goal
 
 pub returns-in_default-clause-outcome : goal.returns-in_default-clause-outcome
@@ -94,8 +95,54 @@ returns-in-Ok-clause-images g c told before = not_before c.run_command.result c.
 pub returns-in-Ok-clause-blocks : goal.returns-in-Ok-clause-blocks
 returns-in-Ok-clause-blocks g c before = not_before c.run_command.result c.run_command.ensures.ends before
 
+pub returns-in_default-clause-images : goal.returns-in_default-clause-images
+returns-in_default-clause-images g c told before = words_stand (g.W.World.log c.args.world.now) (g.W.World.log c.say_last.new.world) _ (c.say_last.ensures.any_moment told)
+
 pub returns-in-Err-TooLong-clause-images : goal.returns-in-Err-TooLong-clause-images
-returns-in-Err-TooLong-clause-images g c told before = c.say_last-in-Err-TooLong.ensures.images told ∙ (c.read_lines.ensures.reading told).stands
+returns-in-Err-TooLong-clause-images g c told before =
+    speaks_stand (g.W.World.log c.args.world.now) (g.W.World.log c.read_lines.new.world) (g.W.World.log c.say_last-in-Err-TooLong.new.world) _
+    (c.read_lines.ensures.any_moment told) (c.say_last-in-Err-TooLong.ensures.any_moment told)
 
 pub returns-in-Err-BadLine-clause-images : goal.returns-in-Err-BadLine-clause-images
-returns-in-Err-BadLine-clause-images g c told before = c.say_bad_line.ensures.images told ∙ (c.read_lines.ensures.reading told).stands
+returns-in-Err-BadLine-clause-images g c told before =
+    speaks_stand (g.W.World.log c.args.world.now) (g.W.World.log c.read_lines.new.world) (g.W.World.log c.say_bad_line.new.world) _
+    (c.read_lines.ensures.any_moment told) (c.say_bad_line.ensures.any_moment told)
+
+pub returns-in-Err-Fault-clause-images : goal.returns-in-Err-Fault-clause-images
+returns-in-Err-Fault-clause-images g c told before = reading_stand (g.W.World.log c.args.world.now) (g.W.World.log c.read_lines.new.world) (c.read_lines.ensures.any_moment told)
+
+pub returns-in-Err-Memory-clause-images : goal.returns-in-Err-Memory-clause-images
+returns-in-Err-Memory-clause-images g c told before = reading_stand (g.W.World.log c.args.world.now) (g.W.World.log c.read_lines.new.world) (c.read_lines.ensures.any_moment told)
+
+pub returns-in_default-clause-any_moment : goal.returns-in_default-clause-any_moment
+returns-in_default-clause-any_moment g c told fits = none_survives (texts c.args.words.now) _ _ c.in_default.ensures.none
+
+pub returns-in-Ok-clause-any_moment : goal.returns-in-Ok-clause-any_moment
+returns-in-Ok-clause-any_moment g c told fits =
+    let old = g.W.World.log c.args.world.now in
+    let mid = g.W.World.log c.read_lines.new.world in
+    let new = g.W.World.log c.run_command.new.world in
+    let command = c.in-Some.command in
+    let v = as_read (found command.volume.now command.create (now mid)) in
+    let z = as_read (found command.store.now command.create (now mid)) in
+    let start = start_of (texts c.args.words.now) (now old) (now mid) command.volume.now command.store.now command.script.now command.create c.in-Ok.lines (c.read_lines.ensures.reading told) c.in-Some.ensures.some (c.in-Ok.ensures.lines told) in
+    run_survives c.one_outcome.ensures.start (texts c.args.words.now) old new c.in-Ok.lines v z start
+    (later_survives v z c.in-Ok.lines old mid new (reading_moments old mid (c.read_lines.ensures.any_moment told)) (c.run_command.ensures.any_moment told (fits c.in-Ok.lines _ _ start)))
+
+pub returns-in-Err-TooLong-clause-any_moment : goal.returns-in-Err-TooLong-clause-any_moment
+returns-in-Err-TooLong-clause-any_moment g c told fits =
+    script_survives c.one_outcome.ensures.run (texts c.args.words.now) (g.W.World.log c.args.world.now) (g.W.World.log c.say_last-in-Err-TooLong.new.world) 0 _
+    (of_long _ _ _ _ _ _ _ c.in-Some.ensures.some c.in-Err-TooLong.field-0-is (c.in-Err-TooLong.ensures.lines told))
+
+pub returns-in-Err-BadLine-clause-any_moment : goal.returns-in-Err-BadLine-clause-any_moment
+returns-in-Err-BadLine-clause-any_moment g c told fits =
+    script_survives c.one_outcome.ensures.run (texts c.args.words.now) (g.W.World.log c.args.world.now) (g.W.World.log c.say_bad_line.new.world) c.in-Err-BadLine.line _
+    (of_bad _ _ _ _ _ _ _ c.in-Err-BadLine.line c.in-Some.ensures.some c.in-Err-BadLine.field-0-is (c.in-Err-BadLine.ensures.lines told))
+
+pub returns-in-Err-Fault-clause-any_moment : goal.returns-in-Err-Fault-clause-any_moment
+returns-in-Err-Fault-clause-any_moment g c told fits =
+    reading_survives (texts c.args.words.now) (g.W.World.log c.args.world.now) (g.W.World.log c.read_lines.new.world) (c.read_lines.ensures.any_moment told)
+
+pub returns-in-Err-Memory-clause-any_moment : goal.returns-in-Err-Memory-clause-any_moment
+returns-in-Err-Memory-clause-any_moment g c told fits =
+    reading_survives (texts c.args.words.now) (g.W.World.log c.args.world.now) (g.W.World.log c.read_lines.new.world) (c.read_lines.ensures.any_moment told)

@@ -1,4 +1,4 @@
-use Rattle.std.proofs.Common.{◌≡◌, ℕ, Option, Some, Err, List, [], ◌∷◌, refl, sym, ◌∙◌, ap, subst}
+use Rattle.std.proofs.Common.{◌≡◌, ℕ, Option, Some, Err, [], ◌∷◌, sym, ◌∙◌, ap, subst}
 use Rattle.tm_base.specs.declared.refused.LineFault.TheVariants.{Refused as RefusedFor}
 use Rattle.tm_store_records.specs.Held.{stored_on as store_stored_on}
 use Rattle.tm_tree.specs.Refusing.{first_refused}

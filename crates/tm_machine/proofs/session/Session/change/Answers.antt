@@ -1,7 +1,7 @@
 use Rattle.std.proofs.Common.{Ok, Err, []}
 use Rattle.tm_world.specs.Log.{now}
 use Rattle.tm_world.specs.declared.world.Side.TheVariants.{Volume as VolumeSide}
-use Rattle.tm_machine.proofs.Resting.{AtRest, store_rests}
+use Rattle.tm_machine.proofs.Resting.{store_rests}
 use Rattle.tm_machine.proofs.VolumeLines.{change_does, change_open, does_rows}
 use Rattle.tm_machine.proofs.session.Session.change.Goals as goal
 

@@ -1,4 +1,4 @@
-use Rattle.std.proofs.Common.{◌≡◌, ◌∙◌, ◌++◌, ◌∷◌, [], ◌-◌, ℕ, List, Option, Some, slice_get, length, ap, sym, subst}
+use Rattle.std.proofs.Common.{◌∙◌, ◌++◌, ◌∷◌, [], ◌-◌, ℕ, List, slice_get, length, ap, sym}
 use Rattle.tm_reply.specs.declared.row.ReplyRow.{ReplyRow}
 use Rattle.tm_reply.specs.declared.row.ReplyRow.TheVariants as row
 use Rattle.tm_store_records.specs.declared.snapshot.Snapshot.{Snapshot}

@@ -1,11 +1,11 @@
-use Rattle.std.proofs.Common.{Ok, Err, [], None, arith, ap, sym, ◌∙◌}
+use Rattle.std.proofs.Common.{[], sym, ◌∙◌}
 use Rattle.tm_tree.specs.States.{new_store}
 use Rattle.tm_world.specs.Log.{now}
 use Rattle.tm_world.specs.Outside.{disk}
 use Rattle.tm_world.specs.declared.world.Side.TheVariants.{Store as StoreSide}
 use Rattle.tm_world.proofs.Going.{Runs-weaker}
 use Rattle.tm_machine.specs.Steps.{at_rest}
-use Rattle.tm_machine.proofs.Resting.{AtRest, volume_rests}
+use Rattle.tm_machine.proofs.Resting.{volume_rests}
 use Rattle.tm_machine.proofs.StoreLines.{blank_unrefused, format_does, format_fails}
 use Rattle.tm_machine.proofs.VolumeLines.{does_rows}
 use Rattle.tm_machine.proofs.session.Session.new_store.Goals as goal

@@ -1,6 +1,6 @@
-use Rattle.std.proofs.Common.{Ok, Err, [], arith, ap, sym, ◌∙◌}
+use Rattle.std.proofs.Common.{Err, [], arith, ap, sym, ◌∙◌}
 use Rattle.tm_world.specs.Log.{now}
-use Rattle.tm_machine.proofs.Resting.{AtRest, store_rests}
+use Rattle.tm_machine.proofs.Resting.{store_rests}
 use Rattle.tm_machine.proofs.VolumeLines.{format_does, format_fails, does_rows}
 use Rattle.tm_machine.proofs.session.Session.new_volume.Goals as goal
 

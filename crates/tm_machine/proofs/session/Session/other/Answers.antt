@@ -9,7 +9,7 @@ use Rattle.tm_machine.specs.Session.{state_on}
 use Rattle.tm_machine.specs.States.{store_in}
 use Rattle.tm_machine.specs.Steps.{on_store, place_tests, snapshot_tests}
 use Rattle.tm_machine.proofs.QueryLines.{as_line, query_does, query_open, query_standing, query_fault, clock_does, ls_fault, reading_does}
-use Rattle.tm_machine.proofs.Resting.{AtRest, alike_self, rest_leaves}
+use Rattle.tm_machine.proofs.Resting.{alike_self, rest_leaves}
 use Rattle.tm_machine.proofs.session.Session.other.Goals as goal
 
 pub returns-in-At-clause-does : goal.returns-in-At-clause-does

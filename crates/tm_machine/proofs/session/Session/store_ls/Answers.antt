@@ -1,4 +1,4 @@
-use Rattle.std.proofs.Common.{◌≡◌, ◌∙◌, [], ap, sym}
+use Rattle.std.proofs.Common.{◌∙◌, [], ap, sym}
 use Rattle.std.specs.Option.{option_map_or}
 use Rattle.tm_world.specs.Outside.{disk}
 use Rattle.tm_world.specs.declared.world.Side.TheVariants.{Store as StoreSide}

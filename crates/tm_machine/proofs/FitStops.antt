@@ -1,0 +1,91 @@
+-- A pair that fits does so in whatever a stop leaves, and when it is opened.
+use Rattle.std.proofs.Common.{◌≡◌, ℕ, ◌+◌, Bool, true, false, if◌then◌else◌, Option, Some, None, [], ◌∷◌, refl, arith}
+use Rattle.std.specs.List.{All}
+use Rattle.std.specs.Option.{option_map}
+use Rattle.std.proofs.lemmas.List.Elements.{All-nil, All-cons, All-append}
+use Rattle.tm_base.specs.declared.refused.Refused.{Refused}
+use Rattle.tm_text.specs.declared.line.Line.{Line}
+use Rattle.tm_text.specs.declared.line.Line.TheVariants as line
+use Rattle.tm_tree.specs.declared.change.Change.{Change}
+use Rattle.tm_tree.specs.Refusing.{first_refused}
+use Rattle.tm_tree.specs.States.{StoreState, VolumeState}
+use Rattle.tm_fit.specs.Fit.{Fits}
+use Rattle.tm_store_records.specs.States.{StoredStore}
+use Rattle.tm_volume.specs.Stored.{StoredVolume, reopened}
+use Rattle.tm_machine.specs.Changing.{change_of}
+use Rattle.tm_machine.specs.Commits.{commits, commits_by, commits_of, ending, opening_of, other_commits, other_undone, started, undone_by, unless_refused}
+use Rattle.tm_machine.specs.Fitting.{CommitsFit, FitOpens, PairFits, StoredFits}
+use Rattle.tm_machine.specs.States.{State, Stored, store_in}
+use Rattle.tm_machine.specs.Steps.{begun, other_after, refusal, start_tests, step, tests_by}
+use Rattle.tm_machine.proofs.FitLemmas.{FitLaws, after_fits, ended_fits, step_fits}
+
+-- ---- opening
+
+module _ (laws : FitLaws) where
+  unclean_fits : (b : Bool) (v : StoredVolume) (z : Option StoreState) → Fits (Some v.volume) z → Fits (Some (reopened (record v { clean = b })).volume) z
+  unclean_fits true v z h = h
+  unclean_fits false v z h = laws.later v.volume z (v.volume.generation + 1) (omega arith) h
+
+  reopened_fits : (v : Option StoredVolume) (z : Option StoreState) → Fits (option_map (λ x. x.volume) v) z → Fits (option_map (λ x. x.volume) (option_map reopened v)) z
+  reopened_fits None z h = tt
+  reopened_fits (Some v) z h = unclean_fits v.clean v z h
+
+  by_mark : (b : Bool) (r : Stored) → StoredFits r → All StoredFits (if b then [] else r ∷ [])
+  by_mark true r h = All-nil StoredFits
+  by_mark false r h = All-cons StoredFits r [] h (All-nil StoredFits)
+
+  opening_fits : (v : Option StoredVolume) (z : Option StoredStore) → Fits (option_map (λ x. x.volume) v) (store_in z) → All StoredFits (opening_of v z)
+  opening_fits None z h = All-nil StoredFits
+  opening_fits (Some v) z h = by_mark v.clean (record { volume = Some (reopened v); store = z }) (reopened_fits (Some v) (store_in z) h)
+
+  pub fit_opens : FitOpens
+  fit_opens n k r h = (reopened_fits r.volume (store_in r.store) h, opening_fits r.volume r.store h)
+
+-- ---- lines
+
+one : (r : Stored) → StoredFits r → All StoredFits (r ∷ [])
+one r h = All-cons StoredFits r [] h (All-nil StoredFits)
+
+two : (q r : Stored) → StoredFits q → StoredFits r → All StoredFits (q ∷ r ∷ [])
+two q r g h = All-cons StoredFits q (r ∷ []) g (one r h)
+
+-- the date of a backup is no matter to the fit
+begun_fits : (v : Option VolumeState) (z : Option StoredStore) (moment : Option ℕ) → Fits v (store_in z) → Fits v (store_in (option_map (begun moment) z))
+begun_fits v None moment h = h
+begun_fits v (Some z) moment h = h
+
+started_fits : (s : State) → PairFits s → StoredFits (started s)
+started_fits s h = begun_fits (option_map (λ v. v.volume) s.volume) s.store s.moment h
+
+ending_fits : (why : Option Refused) (s : State) → PairFits s → All StoredFits (ending why s)
+ending_fits None s h = two (started s) _ (started_fits s h) (ended_fits None s h)
+ending_fits (Some why) s h = All-nil StoredFits
+
+other_undone_fits : (s : State) (l : Line) → PairFits s → All StoredFits (other_undone s l)
+other_undone_fits s line.StartBackupBlock h = ending_fits (first_refused (start_tests s)) s h
+other_undone_fits s _ h = All-nil StoredFits
+
+undone_fits : (s : State) (l : Line) (c : Option Change) → PairFits s → All StoredFits (undone_by s l c)
+undone_fits s l (Some c) h = All-nil StoredFits
+undone_fits s l None h = other_undone_fits s l h
+
+other_made_fits : (s : State) (l : Line) → PairFits s → PairFits (other_after s l) → All StoredFits (other_commits s l)
+other_made_fits s (line.NewVolume name id events) h new = one _ new
+other_made_fits s (line.NewStore machine) h new = one _ new
+other_made_fits s line.StartBackupBlock h new = two (started s) _ (started_fits s h) new
+other_made_fits s _ h new = All-nil StoredFits
+
+module _ (laws : FitLaws) where
+  made_fits : (s : State) (l : Line) (c : Option Change) → first_refused (tests_by s l c) ≡ None → PairFits s → All StoredFits (commits_by s l c)
+  made_fits s l (Some c) none h = one _ (after_fits laws s l (Some c) none h)
+  made_fits s l None none h = other_made_fits s l h (after_fits laws s l None none h)
+
+  by_refusal : (s : State) (l : Line) (why : Option Refused) → refusal s l ≡ why → PairFits s
+      → All StoredFits (unless_refused why (undone_by s l (change_of l)) (commits_by s l (change_of l)))
+  by_refusal s l None e h = made_fits s l (change_of l) e h
+  by_refusal s l (Some why) e h = undone_fits s l (change_of l) h
+
+  pub commits_fit : CommitsFit
+  commits_fit s [] h = All-nil StoredFits
+  commits_fit s (l ∷ lines) h =
+      All-append StoredFits (commits_of s l) (commits (step s l) lines) (by_refusal s l (refusal s l) refl h) (commits_fit (step s l) lines (step_fits laws s l h))
