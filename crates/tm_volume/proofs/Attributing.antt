@@ -1,20 +1,20 @@
 -- The attributes of an item after a change of them.
-use Rattle.std.proofs.Common.{◌≡◌, ℕ, zero, suc, ◌+◌, ◌^◌, ◌<◌, ◌≤◌, Bool, true, false, not, ◌&&◌, cond, nat_lt, if◌then◌else◌, List, [], ◌∷◌, ◌++◌, length, refl, sym, ap, ◌∙◌, subst, Option, Some, None, is_some, arith}
+use Rattle.std.proofs.Common.{◌≡◌, ℕ, zero, suc, ◌+◌, ◌^◌, ◌<◌, ◌≤◌, Bool, true, false, ◌&&◌, cond, nat_lt, if◌then◌else◌, List, [], ◌∷◌, length, refl, sym, ap, ◌∙◌, subst, Option, Some, None, is_some, arith}
 use Rattle.std.specs.BTreeMap.{is_at, insert_entry}
 use Rattle.std.specs.Cmp.Lexicographic.{nat_list_cmp_total, nat_list_eq_equiv, texts_ties}
 use Rattle.std.specs.List.{All}
 use Rattle.std.specs.List.Sorted.{IsStrictlySortedBy}
-use Rattle.std.specs.Map.{keys_of, lookup, remove_entry}
+use Rattle.std.specs.Map.{keys_of, remove_entry}
 use Rattle.std.specs.Ordering.{is_eq, match_ordering}
 use Rattle.std.specs.declared.cmp.Ordering.TheVariants.{Less, Equal, Greater}
 use Rattle.std.proofs.lemmas.Bool.Decides.{nat_tests}
 use Rattle.std.proofs.lemmas.Map.{lookup-none}
 use Rattle.std.proofs.lemmas.Map.Entries.{none_below_head}
 use Rattle.tm_base.specs.IsName.{IsName}
-use Rattle.tm_base.specs.Paths.{Names, name_cmp, same_name}
+use Rattle.tm_base.specs.Paths.{name_cmp, same_name}
 use Rattle.tm_base.specs.declared.refused.Refused.{Refused}
 use Rattle.tm_base.specs.declared.refused.Refused.TheVariants.{TooMany, RootItem}
-use Rattle.tm_nodes.specs.Attrs.{IsExtra, IsAttrs}
+use Rattle.tm_nodes.specs.Attrs.{IsExtra}
 use Rattle.tm_nodes.specs.Items.{item_attrs, IsItemTail, HasItemSize}
 use Rattle.tm_tree.specs.declared.attrs.Attrs.{Attrs}
 use Rattle.tm_tree.specs.declared.change.Change.{Change}
@@ -25,7 +25,7 @@ use Rattle.tm_tree.specs.declared.node.LeafRow.TheVariants as leaf
 use Rattle.tm_tree.specs.declared.record.ItemBody.{ItemBody}
 use Rattle.tm_tree.specs.declared.record.ItemBody.TheVariants as body
 use Rattle.tm_tree.specs.Changes.{most_extras}
-use Rattle.tm_tree.specs.Extras.{Values, value_of, with_extra, without_extra}
+use Rattle.tm_tree.specs.Extras.{Values, value_of, with_extra}
 use Rattle.tm_tree.specs.Items.{attrs_of, with_attrs, stamped, is_folder, exclusion}
 use Rattle.tm_tree.specs.Refusing.{first_refused}
 use Rattle.tm_volume.specs.Attributes.{attrs_after, attrs_tests, extras_after, count_with, reset_body, body_stamps}

@@ -1,5 +1,5 @@
 -- The items of a volume keep the bounds of records.
-use Rattle.std.proofs.Common.{◌≡◌, inl, inr, ℕ, ◌<◌, ◌≤◌, ◌==◌, true, false, List, [], ◌∷◌, length, refl, sym, ap, ◌∙◌, subst, ⊎_elim, Option, Some, None, IfSome, is_some, arith}
+use Rattle.std.proofs.Common.{◌≡◌, inl, inr, ℕ, ◌<◌, ◌≤◌, ◌==◌, true, false, List, [], ◌∷◌, refl, sym, ap, ◌∙◌, subst, ⊎_elim, Option, Some, None, IfSome, is_some, arith}
 use Rattle.std.specs.List.{All}
 use Rattle.std.specs.Cmp.{unsigned_Decides}
 use Rattle.std.specs.Option.{option_map}
@@ -7,11 +7,10 @@ use Rattle.std.proofs.lemmas.Bool.{cases_lt}
 use Rattle.std.proofs.lemmas.List.Elements.{All-cons}
 use Rattle.tm_base.specs.IsName.{IsName}
 use Rattle.tm_base.specs.Paths.{Names}
-use Rattle.tm_chain.specs.Blob.{bytes_in}
 use Rattle.tm_image.specs.Reads.{entry_of}
-use Rattle.tm_items.specs.Computed.{items_of, SoundReads, CountsAlike, AreNumbered}
+use Rattle.tm_items.specs.Computed.{SoundReads, CountsAlike, AreNumbered}
 use Rattle.tm_items.specs.Laws.{FewNumbers}
-use Rattle.tm_items.specs.Placings.{Placed, Items, Walks, ReadsAs}
+use Rattle.tm_items.specs.Placings.{Placed, Walks, ReadsAs}
 use Rattle.tm_items.specs.Rules.{climbs}
 use Rattle.tm_items.proofs.Walking.{climbs_far, climbs_walk}
 use Rattle.tm_nodes.specs.Attrs.{IsAttrs}
@@ -26,7 +25,7 @@ use Rattle.tm_tree.specs.declared.record.ItemBody.TheVariants as body
 use Rattle.tm_tree.specs.declared.record.ItemRow.{ItemRow}
 use Rattle.tm_tree.specs.Items.{attrs_of}
 use Rattle.tm_tree.specs.Trees.{item_at}
-use Rattle.tm_volume_records.specs.Records.{item_key, item_with, placed_with, placings_of, items_in}
+use Rattle.tm_volume_records.specs.Records.{item_key, item_with, placed_with, placings_of}
 use Rattle.tm_volume_records.proofs.Slots.{placed_rec, items_at, items_out, numbered_on}
 use Rattle.tm_volume.specs.Bounds.{HasFields, HasBounds, KeptIsTree, KeptAreFew, ItemsKeepBounds}
 use Rattle.tm_volume.specs.Seen.{Seen, IsKept, entries_on, items_on, tree_on}

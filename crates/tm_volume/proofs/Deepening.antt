@@ -1,5 +1,5 @@
 -- How far beneath an item others stand: level by level in the index, and in the tree.
-use Rattle.std.proofs.Common.{◌≡◌, ◌⊎◌, inl, inr, ⊎_elim, ℕ, zero, suc, ◌+◌, ◌-◌, ◌<◌, ◌≤◌, ◌==◌, Bool, true, false, cond, not, nat_lt, List, [], ◌∷◌, ◌++◌, length, map, get_or, take, drop, refl, sym, ap, ◌∙◌, subst, Option, Some, None, is_some, arith, length-append, length-take, append-nil, append_assoc}
+use Rattle.std.proofs.Common.{◌≡◌, ◌⊎◌, inl, inr, ⊎_elim, ℕ, suc, ◌+◌, ◌<◌, ◌≤◌, ◌==◌, Bool, true, false, cond, not, List, [], ◌∷◌, ◌++◌, length, map, get_or, take, drop, refl, sym, ap, ◌∙◌, subst, Some, arith, length-append, length-take, append-nil, append_assoc}
 use Rattle.std.specs.BTreeMap.{is_at}
 use Rattle.std.specs.List.{list_any}
 use Rattle.std.specs.Prelude.{filter, ◌||◌}
@@ -7,17 +7,15 @@ use Rattle.tm_base.specs.Paths.{path_cmp}
 use Rattle.tm_tree.specs.declared.item.Item.{Item}
 use Rattle.tm_tree.specs.Trees.{Tree, item_at}
 use Rattle.tm_tree.proofs.CopyProofs.{at_is}
-use Rattle.std.specs.List.Sorted.{IsStrictlySortedBy}
-use Rattle.std.specs.Map.{keys_of, lookup}
+use Rattle.std.specs.Map.{lookup}
 use Rattle.std.proofs.lemmas.Bool.{cases_lt}
 use Rattle.std.proofs.lemmas.Bool.Decides.{nat_tests}
 use Rattle.std.proofs.lemmas.List.{take-append-drop, take_all, take_more}
-use Rattle.tm_base.specs.Paths.{Names, name_cmp, is_prefix, is_root, parent_of}
-use Rattle.tm_items.specs.Changes.{Are}
+use Rattle.tm_base.specs.Paths.{Names, name_cmp, is_root, parent_of}
 use Rattle.tm_items.specs.Index.{Numbers, IsIndex}
 use Rattle.tm_items.specs.Listing.{AreEntries}
 use Rattle.tm_items.specs.Places.{at_name}
-use Rattle.tm_items.specs.Placings.{Placed, Items, IsChild, Walks}
+use Rattle.tm_items.specs.Placings.{Items, Walks}
 use Rattle.tm_items.proofs.Entries.{found_at}
 use Rattle.tm_items.proofs.Finding.{last_apart}
 use Rattle.tm_items.proofs.Parents.{parent_short}

@@ -1,9 +1,8 @@
 -- Items in which nothing stands, and the refusals of their removal.
-use Rattle.std.proofs.Common.{◌≡◌, inl, ℕ, zero, suc, ◌+◌, ◌<◌, ◌≤◌, ◌==◌, Bool, true, false, not, nat_lt, List, [], ◌∷◌, ◌++◌, length, refl, sym, ap, ◌∙◌, subst, Option, Some, None, is_some, arith}
+use Rattle.std.proofs.Common.{◌≡◌, inl, ℕ, suc, ◌==◌, Bool, true, false, not, nat_lt, List, [], ◌∷◌, ◌++◌, length, refl, sym, ap, ◌∙◌, subst, Option, Some, None, arith}
 use Rattle.std.proofs.lemmas.Bool.Decides.{nat_tests}
 use Rattle.tm_base.specs.Paths.{Names, is_root}
 use Rattle.tm_base.specs.declared.refused.Refused.TheVariants.{NotEmpty, RootItem}
-use Rattle.tm_items.specs.Changes.{Are}
 use Rattle.tm_items.specs.Finding.{FoundAt}
 use Rattle.tm_items.specs.Index.{Numbers, IsIndex}
 use Rattle.tm_items.specs.Listing.{AreEntries, row_of, rows_in}

@@ -1,5 +1,5 @@
 -- Of the checks of a volume's image one fails, and none of an image that reads as something.
-use Rattle.std.proofs.Common.{◌≡◌, ◌⊎◌, ⊎_elim, inl, inr, ℕ, ◌==◌, ◌^◌, ◌-◌, ◌<◌, ◌≤◌, List, false, Option, Some, None, refl, sym, ◌∙◌, ap, subst, arith}
+use Rattle.std.proofs.Common.{◌≡◌, ◌⊎◌, ⊎_elim, inl, inr, ℕ, ◌==◌, ◌^◌, ◌-◌, ◌<◌, ◌≤◌, Some, None, refl, sym, ◌∙◌, ap, subst, arith}
 use Rattle.std.proofs.lemmas.Bool.{cases_lt}
 use Rattle.tm_gate.specs.Load.{IsUnformatted}
 use Rattle.tm_gate.specs.Slot.{HasMagic}
@@ -12,7 +12,7 @@ use Rattle.tm_world.specs.declared.cause.Cause.{Cause}
 use Rattle.tm_world.specs.declared.cause.Cause.TheVariants.{Slot, Chain, Table, Pages, Block, Room, Record, Spent}
 use Rattle.tm_world.specs.declared.world.Side.TheVariants.{Volume as OfVolume}
 use Rattle.tm_volume.specs.Answers.{FailsVolume, IsSpent, OneVolumeFailure, ReadsOrFailsVolume}
-use Rattle.tm_volume.specs.Reads.{SideReads, VolumeReads, IsUnformattedImage, tag_bytes}
+use Rattle.tm_volume.specs.Reads.{VolumeReads, IsUnformattedImage, tag_bytes}
 use Rattle.tm_volume_records.specs.Rules.{Tag, IsTagged, IsGoodVolume, IsLeastBad}
 use Rattle.tm_volume.specs.Stored.{StoredVolume}
 use Rattle.tm_volume.proofs.Leaving.{same_tag}

@@ -1,16 +1,14 @@
 -- An item that stands in a folder.
-use Rattle.std.proofs.Common.{◌≡◌, ℕ, refl, ◌≤◌, ◌==◌, false, List, [], sym, ap, ◌∙◌, subst, Option, Some, IsSome, is_some}
+use Rattle.std.proofs.Common.{◌≡◌, ℕ, refl, ◌≤◌, ◌==◌, false, List, [], sym, ap, ◌∙◌, subst, Option, Some, IsSome}
 use Rattle.std.specs.Option.{option_map}
 use Rattle.tm_base.specs.Paths.{Names, is_root, parent_of}
 use Rattle.tm_image.specs.Reads.{entry_of}
-use Rattle.tm_items.specs.Changes.{Are}
 use Rattle.tm_items.specs.Finding.{FoundAt}
 use Rattle.tm_items.specs.Index.{Numbers}
 use Rattle.tm_items.specs.Placings.{Placed, Walks}
 use Rattle.tm_items.proofs.Reading.{last_step}
 use Rattle.tm_items.proofs.Finding.{from_root}
 use Rattle.tm_items.proofs.Parents.{not_one}
-use Rattle.tm_records.specs.Records.{Records}
 use Rattle.tm_tree.specs.declared.record.ItemRow.{ItemRow}
 use Rattle.tm_volume.specs.Edits.{IsRowAt}
 use Rattle.tm_volume_records.specs.Records.{items_in, placed_with, IsThere}

@@ -1,40 +1,35 @@
 -- The edit that removes an item can be made, and makes the volume without it.
-use Rattle.std.proofs.Common.{◌≡◌, ◌⊎◌, inl, inr, ℕ, zero, suc, ◌+◌, ◌^◌, ◌<◌, ◌≤◌, ◌==◌, Bool, true, false, cond, List, [], ◌∷◌, length, refl, sym, ap, ◌∙◌, subst, Option, Some, None, IsSome, is_some, unwrap_or, arith}
-use Rattle.std.specs.Option.{option_map}
+use Rattle.std.proofs.Common.{◌≡◌, ℕ, zero, suc, ◌+◌, ◌^◌, ◌<◌, ◌≤◌, ◌==◌, Bool, true, false, cond, List, [], ◌∷◌, refl, sym, ap, ◌∙◌, subst, Option, Some, None, is_some, arith}
 use Rattle.std.specs.Ordering.{nat_cmp}
-use Rattle.std.specs.BTreeMap.{is_at, insert_entry}
+use Rattle.std.specs.BTreeMap.{is_at}
 use Rattle.std.specs.List.{All}
 use Rattle.std.specs.List.Sorted.{IsStrictlyIncreasing}
 use Rattle.std.specs.Map.{remove_entry}
 use Rattle.std.proofs.lemmas.Bool.Decides.{nat_tests}
 use Rattle.tm_base.specs.Days.{last_moment}
-use Rattle.tm_base.specs.Paths.{Names, is_root, parent_of}
+use Rattle.tm_base.specs.Paths.{Names, parent_of}
 use Rattle.tm_records.specs.declared.record.Put.{Put}
 use Rattle.tm_records.specs.declared.record.Record.{Record}
-use Rattle.tm_records.specs.Puts.{with_puts}
 use Rattle.tm_records.specs.Removes.{without}
 use Rattle.tm_records.specs.Records.{Records, at}
 use Rattle.tm_image.specs.Commit.{changed, IsPut}
 use Rattle.tm_image.specs.Reads.{entry_of}
 use Rattle.tm_items.specs.Changes.{Are, CanRemove, removed_items, date_item, date_placed, with_item, without_item}
-use Rattle.tm_items.specs.Index.{Numbers, IsIndex, SetsAt}
+use Rattle.tm_items.specs.Index.{Numbers, SetsAt}
 use Rattle.tm_items.specs.Placings.{Placed, Items, Walks}
 use Rattle.tm_items.specs.Places.{place_in}
 use Rattle.tm_items.proofs.Indexing.{index_removes}
 use Rattle.tm_items.proofs.Changing.{remove_reads}
-use Rattle.tm_nodes.specs.Items.{item_text, IsItemOfSize}
+use Rattle.tm_nodes.specs.Items.{IsItemOfSize}
 use Rattle.tm_tree.specs.declared.change.Change.{Change}
 use Rattle.tm_tree.specs.declared.change.Change.TheVariants as change
-use Rattle.tm_tree.specs.declared.item.Item.{Item}
-use Rattle.tm_tree.specs.declared.record.ItemRow.{ItemRow}
 use Rattle.tm_tree.specs.Changes.{remove_at}
 use Rattle.tm_tree.specs.Items.{dated}
-use Rattle.tm_tree.specs.Trees.{Tree, item_at, last_of}
 use Rattle.tm_volume.specs.declared.edit.Edit.{Edit}
 use Rattle.tm_volume.specs.declared.edit.Entered.{Entered}
 use Rattle.tm_volume.specs.declared.edit.Left.{Left}
 use Rattle.tm_volume.specs.Changes.{changed as changed_by, with_contents}
-use Rattle.tm_volume.specs.Edits.{after, Enters, Leaves, IsFree, IsEdit, IsGoodEdit, IsRowAt, dated_row}
+use Rattle.tm_volume.specs.Edits.{after, Enters, Leaves, IsFree, IsEdit, IsGoodEdit, dated_row}
 use Rattle.tm_volume.specs.Plans.{BringNone, IsGood}
 use Rattle.tm_volume_records.specs.Records.{head_key, journal_key, item_key, placed_with, items_in}
 use Rattle.tm_volume.specs.Removals.{IsRemoval, IsLoose, Removes}
@@ -44,8 +39,8 @@ use Rattle.tm_volume.proofs.Held as held
 use Rattle.tm_volume_records.proofs.Slots.{Rising}
 use Rattle.tm_volume.proofs.Finding.{OnShelf, are_on}
 use Rattle.tm_volume.proofs.Changing.{at_remove, rising_remove, items_remove, items_without}
-use Rattle.tm_volume.proofs.Goods.{AreGood, good_remove}
-use Rattle.tm_volume.proofs.Redone.{apart_low, row_item, redone, redone_put, redone_puts, redone_rising, redone_low, kept_is_put, dated_rules, dated_good, dated_items}
+use Rattle.tm_volume.proofs.Goods.{good_remove}
+use Rattle.tm_volume.proofs.Redone.{apart_low, row_item, redone, redone_puts, redone_rising, redone_low, kept_is_put, dated_rules, dated_good, dated_items}
 use Rattle.tm_volume.proofs.Remade.{IsRemade, remade_edit, remade_good, remade_stored}
 
 clash : {P : Type 0} → false ≡ true → P

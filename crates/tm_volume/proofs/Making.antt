@@ -1,33 +1,30 @@
 -- An item without data, made: all that its edit needs and gives.
-use Rattle.std.proofs.Common.{◌≡◌, inl, inr, ℕ, ◌+◌, ◌^◌, ◌<◌, ◌≤◌, ◌==◌, Bool, true, false, cond, List, [], ◌∷◌, length, refl, sym, ap, ◌∙◌, subst, Option, Some, None, IsSome, is_some, arith}
-use Rattle.std.specs.Option.{option_map, unwrap_or}
-use Rattle.std.specs.List.{range_with_len}
+use Rattle.std.proofs.Common.{◌≡◌, inl, inr, ℕ, ◌^◌, ◌≤◌, ◌==◌, true, false, List, [], length, refl, sym, ap, ◌∙◌, subst, Option, Some, None, IsSome, is_some, arith}
+use Rattle.std.specs.Option.{option_map}
 use Rattle.std.proofs.lemmas.Bool.Decides.{nat_tests}
 use Rattle.tm_base.specs.Days.{last_moment}
 use Rattle.tm_base.specs.Paths.{Names, is_root}
 use Rattle.tm_chain.specs.Blob.{bytes_in}
-use Rattle.tm_image.specs.Reads.{Entry, entry_of}
+use Rattle.tm_image.specs.Reads.{entry_of}
 use Rattle.tm_items.specs.Index.{Numbers}
 use Rattle.tm_items.specs.Placings.{Placed}
 use Rattle.tm_nodes.specs.Items.{item_text}
 use Rattle.tm_nodes.specs.Records.{item_of, paths_of}
 use Rattle.tm_records.specs.declared.record.Body.TheVariants.{Empty}
 use Rattle.tm_records.specs.declared.record.Record.{Record}
-use Rattle.tm_records.specs.Records.{Records, at}
-use Rattle.tm_tree.specs.declared.item.Item.{Item}
-use Rattle.tm_tree.specs.declared.record.ItemBody.{ItemBody}
+use Rattle.tm_records.specs.Records.{at}
 use Rattle.tm_tree.specs.declared.record.ItemRow.{ItemRow}
 use Rattle.tm_tree.specs.Trees.{item_at, last_of}
 use Rattle.tm_volume.specs.declared.edit.Edit.{Edit}
 use Rattle.tm_volume.specs.Edits.{after, IsEdit, IsGoodEdit, IsNewRow, MakesPlace, placed_stored}
 use Rattle.tm_volume_records.specs.Records.{head_key, item_key, item_with, entry_at}
-use Rattle.tm_volume_records.specs.Rules.{IsItem, HasData, HasStamp, IsGoodVolume}
+use Rattle.tm_volume_records.specs.Rules.{HasData, HasStamp, IsGoodVolume}
 use Rattle.tm_volume.specs.Seen.{Seen, entries_on, items_on, tree_on, stored_on}
 use Rattle.tm_volume.specs.Spots.{IsInto, IsUnused}
-use Rattle.tm_volume.proofs.Rooms.{data_length, Known, found_kept}
+use Rattle.tm_volume.proofs.Rooms.{data_length}
 use Rattle.tm_volume.proofs.Rows.{number_low}
 use Rattle.tm_volume.proofs.Finding.{OnShelf}
-use Rattle.tm_volume.proofs.Goods.{AreGood, good_from, later_stamp}
+use Rattle.tm_volume.proofs.Goods.{good_from, later_stamp}
 use Rattle.tm_volume.proofs.Placing.{IsHeldRow}
 use Rattle.tm_volume.proofs.Made as made
 

@@ -1,11 +1,10 @@
 -- The record of an item with another row, which keeps its data.
-use Rattle.std.proofs.Common.{◌≡◌, inl, inr, ℕ, ◌+◌, ◌^◌, ◌<◌, ◌≤◌, ◌==◌, Bool, true, false, cond, List, [], ◌∷◌, length, refl, sym, ap, ◌∙◌, subst, Option, Some, None, arith}
+use Rattle.std.proofs.Common.{◌≡◌, inl, inr, ℕ, ◌+◌, ◌^◌, ◌<◌, ◌≤◌, ◌==◌, true, false, cond, List, ◌∷◌, refl, sym, ap, ◌∙◌, subst, Option, Some, arith}
 use Rattle.std.specs.Option.{option_map}
 use Rattle.std.specs.Ordering.{nat_cmp}
 use Rattle.std.specs.BTreeMap.{is_at, insert_entry}
 use Rattle.std.proofs.lemmas.Bool.Decides.{nat_tests}
 use Rattle.tm_base.specs.Days.{last_moment}
-use Rattle.tm_records.specs.declared.record.Body.{Body}
 use Rattle.tm_records.specs.declared.record.Body.TheVariants.{Kept}
 use Rattle.tm_records.specs.declared.record.Put.{Put}
 use Rattle.tm_records.specs.declared.record.Record.{Record}
@@ -24,8 +23,8 @@ use Rattle.tm_tree.specs.declared.record.ItemBody.{ItemBody}
 use Rattle.tm_tree.specs.declared.record.ItemBody.TheVariants as body
 use Rattle.tm_tree.specs.declared.record.ItemRow.{ItemRow}
 use Rattle.tm_volume.specs.Edits.{dated_body, dated_row, IsRowAt}
-use Rattle.tm_volume_records.specs.Records.{item_key, item_with, placed_with, placed_of, items_in}
-use Rattle.tm_volume_records.specs.Rules.{IsItem, HasData, HasStamp}
+use Rattle.tm_volume_records.specs.Records.{item_key, placed_with, items_in}
+use Rattle.tm_volume_records.specs.Rules.{HasData, HasStamp}
 use Rattle.tm_volume_records.proofs.Slots.{Rising, items_at, placed_rec}
 use Rattle.tm_volume.proofs.Rooms.{data_length}
 use Rattle.tm_volume.proofs.Metas.{meta_short}

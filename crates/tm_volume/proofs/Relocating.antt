@@ -10,7 +10,7 @@ use Rattle.tm_base.specs.declared.refused.Refused.TheVariants.{NotFound, Exists,
 use Rattle.tm_base.proofs.PathLemmas.{prefix_is, is_prefix_of_append}
 use Rattle.tm_items.specs.Finding.{FoundAt}
 use Rattle.tm_items.specs.Index.{Numbers}
-use Rattle.tm_items.specs.Placings.{Items, Walks}
+use Rattle.tm_items.specs.Placings.{Walks}
 use Rattle.tm_items.specs.Rules.{is_folder_placed}
 use Rattle.tm_items.proofs.Finding.{from_root, stands_at, folder_alike}
 use Rattle.tm_items.proofs.Reading.{some_of}

@@ -1,5 +1,5 @@
 -- An edit whose records are known: it can be made, and makes the volume with the new tree.
-use Rattle.std.proofs.Common.{◌≡◌, ℕ, ◌+◌, ◌^◌, ◌<◌, ◌≤◌, true, false, List, [], ◌∷◌, refl, sym, ap, ◌∙◌, subst, Option, Some, None, arith}
+use Rattle.std.proofs.Common.{◌≡◌, ℕ, ◌^◌, ◌≤◌, false, List, refl, sym, ap, ◌∙◌, subst, Option, Some, None}
 use Rattle.std.specs.Option.{option_map, unwrap_or}
 use Rattle.std.specs.List.{All}
 use Rattle.std.specs.List.Sorted.{IsStrictlyIncreasing}
@@ -18,7 +18,7 @@ use Rattle.tm_volume.specs.declared.edit.Edit.{Edit}
 use Rattle.tm_volume.specs.Changes.{with_contents}
 use Rattle.tm_volume.specs.Edits.{after, next_tag, Enters, Leaves, IsFree, IsEdit, IsGoodEdit}
 use Rattle.tm_volume.specs.Plans.{IsGood}
-use Rattle.tm_volume_records.specs.Records.{head_key, journal_key, placings_of, items_in, entry_at}
+use Rattle.tm_volume_records.specs.Records.{head_key, journal_key, placings_of, items_in}
 use Rattle.tm_volume.specs.Seen.{Seen, entries_on, items_on, tree_on, stored_on, volume_on}
 use Rattle.tm_volume_records.proofs.Slots.{Rising, entry_is, numbered_on}
 use Rattle.tm_volume.proofs.Finding.{OnShelf}

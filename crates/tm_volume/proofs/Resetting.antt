@@ -1,5 +1,5 @@
 -- The edit that gives an item other attributes can be made, and makes the volume with them.
-use Rattle.std.proofs.Common.{◌≡◌, ℕ, zero, suc, ◌+◌, ◌^◌, ◌<◌, ◌≤◌, ◌==◌, Bool, true, false, cond, List, [], ◌∷◌, length, refl, sym, ap, ◌∙◌, subst, Option, Some, None, is_some, Ok, arith}
+use Rattle.std.proofs.Common.{◌≡◌, ℕ, zero, suc, ◌+◌, ◌^◌, ◌≤◌, ◌==◌, true, false, cond, List, [], ◌∷◌, refl, sym, ap, ◌∙◌, subst, Option, Some, None, is_some, Ok, arith}
 use Rattle.std.specs.Option.{option_map, unwrap_or}
 use Rattle.std.specs.Ordering.{nat_cmp}
 use Rattle.std.specs.BTreeMap.{is_at}
@@ -27,7 +27,7 @@ use Rattle.tm_nodes.specs.Records.{volume_of, paths_of}
 use Rattle.tm_tree.specs.declared.change.Change.{Change}
 use Rattle.tm_tree.specs.declared.item.Item.{Item}
 use Rattle.tm_tree.specs.declared.record.ItemRow.{ItemRow}
-use Rattle.tm_tree.specs.Changes.{attrs_changed, tests, tree_after, fixed_after}
+use Rattle.tm_tree.specs.Changes.{attrs_changed, tree_after, fixed_after}
 use Rattle.tm_tree.specs.Extras.{value_of}
 use Rattle.tm_tree.specs.Items.{attrs_of, is_excluded, exclusion}
 use Rattle.tm_tree.specs.Refusing.{first_refused}
@@ -38,10 +38,10 @@ use Rattle.tm_volume.specs.declared.edit.Edit.{Edit}
 use Rattle.tm_volume.specs.declared.edit.Entered.{Entered}
 use Rattle.tm_volume.specs.declared.edit.Left.{Left}
 use Rattle.tm_volume.specs.Attributes.{SetsAttrs, IsReset, attrs_after, attrs_tests, body_stamps, reset_row}
-use Rattle.tm_volume.specs.Changes.{changed as changed_by, with_contents}
+use Rattle.tm_volume.specs.Changes.{changed as changed_by}
 use Rattle.tm_volume.specs.Edits.{after, next_tag, Enters, Leaves, IsFree, IsEdit, IsGoodEdit, IsRowAt}
 use Rattle.tm_volume.specs.Plans.{BringNone, IsGood, Writes}
-use Rattle.tm_volume_records.specs.Records.{head_key, journal_key, item_with, placed_with, placings_of, items_in, entry_at}
+use Rattle.tm_volume_records.specs.Records.{head_key, journal_key, item_with, placed_with, placings_of, items_in}
 use Rattle.tm_volume.specs.Seen.{Seen, entries_on, items_on, tree_on, stored_on, volume_on}
 use Rattle.tm_volume.proofs.Attributing.{attrs_same, set_item, set_with, set_attrs_of, set_folder, still_included, reset_size, reset_data, reset_stamp}
 use Rattle.tm_volume.proofs.Changing.{at_remove, rising_remove, items_without}

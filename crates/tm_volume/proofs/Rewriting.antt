@@ -1,5 +1,5 @@
 -- The edit of a file that stands, once it brings a blob.
-use Rattle.std.proofs.Common.{◌≡◌, inr, ℕ, zero, suc, ◌+◌, ◌^◌, ◌<◌, ◌≤◌, ◌==◌, Bool, true, false, cond, List, [], ◌∷◌, length, refl, sym, ap, ◌∙◌, subst, Option, Some, None, is_some, arith}
+use Rattle.std.proofs.Common.{◌≡◌, inr, ℕ, zero, suc, ◌+◌, ◌^◌, ◌<◌, ◌≤◌, ◌==◌, true, false, cond, List, [], ◌∷◌, refl, sym, ap, ◌∙◌, subst, Option, Some, None, is_some, arith}
 use Rattle.std.specs.Prelude.{unwrap_or}
 use Rattle.std.specs.Option.{option_map}
 use Rattle.std.specs.Ordering.{nat_cmp}
@@ -8,7 +8,6 @@ use Rattle.std.specs.List.{All}
 use Rattle.std.specs.List.Sorted.{IsStrictlyIncreasing}
 use Rattle.std.specs.Map.{remove_entry}
 use Rattle.std.proofs.lemmas.Bool.Decides.{nat_tests}
-use Rattle.tm_base.specs.Days.{last_moment}
 use Rattle.tm_base.specs.Paths.{Names, parent_of}
 use Rattle.tm_chain.specs.Blob.{blob_len, bytes_in}
 use Rattle.tm_image.specs.Commit.{changed, IsPut}
@@ -33,17 +32,16 @@ use Rattle.tm_tree.specs.declared.node.LeafRow.TheVariants as leaf
 use Rattle.tm_tree.specs.declared.record.ItemBody.TheVariants as body
 use Rattle.tm_tree.specs.declared.record.ItemRow.{ItemRow}
 use Rattle.tm_tree.specs.Changes.{most_bytes, written, write_at}
-use Rattle.tm_tree.specs.Items.{is_folder, is_excluded}
+use Rattle.tm_tree.specs.Items.{is_folder}
 use Rattle.tm_tree.specs.Refusing.{first_refused}
 use Rattle.tm_tree.specs.Trees.{Tree, item_at, put, touch}
 use Rattle.tm_world.specs.declared.bytes.Blob.{Blob}
 use Rattle.tm_volume.specs.declared.edit.Edit.{Edit}
 use Rattle.tm_volume.specs.declared.edit.Entered.{Entered}
 use Rattle.tm_volume.specs.declared.edit.Left.{Left}
-use Rattle.tm_volume.specs.Changes.{with_contents}
 use Rattle.tm_volume.specs.Edits.{after, next_tag, Enters, Leaves, IsFree, IsEdit, IsGoodEdit, IsRowAt}
 use Rattle.tm_volume.specs.Plans.{IsGood}
-use Rattle.tm_volume_records.specs.Records.{head_key, journal_key, item_key, placed_with, placings_of, items_in, entry_at}
+use Rattle.tm_volume_records.specs.Records.{head_key, journal_key, item_key, placed_with, placings_of, items_in}
 use Rattle.tm_volume.specs.Seen.{Seen, entries_on, items_on, tree_on, stored_on, volume_on}
 use Rattle.tm_volume.specs.Writes.{written_stored, write_tests, redone_file_row, brings_first, IsBringing, IsBlobOf, WritesFile}
 use Rattle.tm_volume.proofs.Changing.{at_insert, at_remove, rising_insert, rising_remove, items_put, items_without}

@@ -1,8 +1,8 @@
 -- The record of an item that stands.
-use Rattle.std.proofs.Common.{◌≡◌, inl, inr, ℕ, ◌+◌, ◌^◌, ◌<◌, ◌≤◌, true, false, List, [], length, refl, sym, ap, ◌∙◌, subst, ⊎_elim, Option, Some, None, IsSome, IfSome, IfNone, Bor, Err, Fits, w64, arith}
+use Rattle.std.proofs.Common.{◌≡◌, inl, inr, ℕ, ◌+◌, ◌^◌, ◌<◌, ◌≤◌, true, false, List, [], length, refl, sym, ap, ◌∙◌, subst, ⊎_elim, Option, Some, None, IsSome, Fits, w64, arith}
 use Rattle.std.proofs.lemmas.Bool.{cases_lt}
 use Rattle.std.proofs.lemmas.List.FromFn.{length-map-range_with_len}
-use Rattle.std.proofs.lemmas.Option.{same_Some, MatchOption-at_some}
+use Rattle.std.proofs.lemmas.Option.{same_Some}
 use Rattle.std.specs.Option.{option_map}
 use Rattle.tm_chain.specs.Blob.{bytes_in, byte_in}
 use Rattle.tm_image.specs.Reads.{entry_of}

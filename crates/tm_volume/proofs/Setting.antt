@@ -1,5 +1,5 @@
 -- The item whose attributes are set, as its record says it, and what the change of them draws.
-use Rattle.std.proofs.Common.{◌≡◌, ℕ, ◌+◌, ◌<◌, ◌≤◌, ◌^◌, List, length, sym, ap, ◌∙◌, subst, Option, Some, None, is_some, Ok, Err, IsSome, refl, arith}
+use Rattle.std.proofs.Common.{◌≡◌, ℕ, ◌+◌, ◌<◌, ◌≤◌, ◌^◌, List, length, sym, ap, ◌∙◌, Option, Some, None, is_some, Ok, IsSome, refl, arith}
 use Rattle.std.specs.Option.{option_map}
 use Rattle.tm_base.specs.Paths.{Names, is_root}
 use Rattle.tm_base.specs.declared.refused.Refused.{Refused}
@@ -15,7 +15,6 @@ use Rattle.tm_tree.specs.declared.item.Item.{Item}
 use Rattle.tm_tree.specs.declared.record.ItemRow.{ItemRow}
 use Rattle.tm_tree.specs.declared.rows.Touch.{Touch}
 use Rattle.tm_tree.specs.Changes.{tests}
-use Rattle.tm_tree.specs.Items.{attrs_of}
 use Rattle.tm_tree.specs.Refusing.{first_refused}
 use Rattle.tm_tree.specs.Touches.{numbers, stamps, touches}
 use Rattle.tm_tree.specs.Trees.{item_at}

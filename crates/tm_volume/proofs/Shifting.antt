@@ -1,5 +1,5 @@
 -- The edit that moves an item can be made, and makes the volume with it in its new place.
-use Rattle.std.proofs.Common.{◌≡◌, ◌≢◌, ℕ, zero, suc, ◌+◌, ◌^◌, ◌<◌, ◌≤◌, ◌==◌, Bool, true, false, cond, List, [], ◌∷◌, ◌++◌, length, refl, sym, ap, ◌∙◌, subst, Option, Some, None, IsSome, is_some, arith, append-nil}
+use Rattle.std.proofs.Common.{◌≡◌, ℕ, zero, suc, ◌^◌, ◌≤◌, ◌==◌, true, false, cond, List, [], ◌∷◌, refl, sym, ap, ◌∙◌, subst, Option, Some, None, IsSome, is_some, arith, append-nil}
 use Rattle.std.specs.Ordering.{nat_cmp}
 use Rattle.std.specs.BTreeMap.{is_at}
 use Rattle.std.specs.List.{All}
@@ -8,7 +8,7 @@ use Rattle.std.specs.Map.{remove_entry}
 use Rattle.std.proofs.lemmas.Bool.Decides.{nat_tests}
 use Rattle.tm_base.specs.Days.{last_moment}
 use Rattle.tm_base.specs.IsName.{IsName}
-use Rattle.tm_base.specs.Paths.{Names, is_root, parent_of, is_prefix}
+use Rattle.tm_base.specs.Paths.{Names, parent_of, is_prefix}
 use Rattle.tm_base.proofs.PathLemmas.{is_prefix_of_append}
 use Rattle.tm_records.specs.declared.record.Body.TheVariants.{Kept}
 use Rattle.tm_records.specs.declared.record.Put.{Put}
@@ -18,8 +18,8 @@ use Rattle.tm_records.specs.Removes.{without}
 use Rattle.tm_records.specs.Records.{Records, at}
 use Rattle.tm_image.specs.Commit.{changed, IsPut}
 use Rattle.tm_image.specs.Reads.{entry_of}
-use Rattle.tm_items.specs.Changes.{Are, CanMove, moved_items, date_item, with_item}
-use Rattle.tm_items.specs.Index.{Numbers, IsIndex, SetsAt}
+use Rattle.tm_items.specs.Changes.{Are, CanMove, moved_items, date_item}
+use Rattle.tm_items.specs.Index.{Numbers, SetsAt}
 use Rattle.tm_items.specs.Placings.{Placed, Items, Walks}
 use Rattle.tm_items.specs.Places.{place_in}
 use Rattle.tm_items.proofs.Walking.{one_path}
@@ -27,7 +27,7 @@ use Rattle.tm_items.proofs.Parents.{above_parent, own_parent}
 use Rattle.tm_items.proofs.Indexing.{index_moves}
 use Rattle.tm_items.proofs.Finding.{place_free}
 use Rattle.tm_items.proofs.Changing.{move_reads}
-use Rattle.tm_nodes.specs.Items.{item_text, IsItemRow, IsItemOfSize}
+use Rattle.tm_nodes.specs.Items.{item_text, IsItemOfSize}
 use Rattle.tm_tree.specs.declared.record.ItemRow.{ItemRow}
 use Rattle.tm_tree.specs.Changes.{move_to}
 use Rattle.tm_tree.specs.Trees.{last_of}
@@ -46,7 +46,7 @@ use Rattle.tm_volume.proofs.Finding.{OnShelf, are_on}
 use Rattle.tm_volume.proofs.Changing.{at_remove, rising_remove, items_without}
 use Rattle.tm_volume.proofs.Goods.{AreGood, good_remove}
 use Rattle.tm_volume.proofs.Held as held
-use Rattle.tm_volume.proofs.Redone.{row_rules, row_held, row_item, row_past, one_row, dated_twice, redone, redone_put, redone_puts, redone_rising, redone_low, redone_row, redone_items, redone_good, kept_is_put, dated_rules, dated_good, dated_items}
+use Rattle.tm_volume.proofs.Redone.{row_rules, row_held, row_past, one_row, dated_twice, redone, redone_puts, redone_rising, redone_low, redone_row, redone_items, redone_good, kept_is_put, dated_rules, dated_good, dated_items}
 use Rattle.tm_volume.proofs.Remade.{IsRemade, remade_edit, remade_good, remade_stored}
 
 clash : {P : Type 0} → false ≡ true → P

@@ -1,20 +1,18 @@
 -- The edit of a new file, once it brings a blob.
-use Rattle.std.proofs.Common.{◌≡◌, inl, inr, ℕ, ◌+◌, ◌^◌, ◌<◌, ◌≤◌, ◌==◌, Bool, true, false, cond, List, [], ◌∷◌, length, refl, sym, ap, ◌∙◌, subst, Option, Some, None, IsSome, is_some, arith}
-use Rattle.std.specs.Prelude.{unwrap_or}
+use Rattle.std.proofs.Common.{◌≡◌, ℕ, ◌+◌, ◌^◌, ◌≤◌, ◌==◌, true, false, cond, List, [], ◌∷◌, length, refl, sym, ap, ◌∙◌, subst, Option, Some, None, IsSome, is_some, arith}
 use Rattle.std.specs.Option.{option_map}
 use Rattle.std.proofs.lemmas.Bool.Decides.{nat_tests}
 use Rattle.tm_base.specs.Days.{last_moment}
 use Rattle.tm_base.specs.Paths.{Names, is_root, parent_of}
 use Rattle.tm_chain.specs.Blob.{blob_len, bytes_in}
-use Rattle.tm_image.specs.Reads.{Entry, entry_of}
+use Rattle.tm_image.specs.Reads.{entry_of}
 use Rattle.tm_items.specs.Index.{Numbers}
 use Rattle.tm_items.specs.Placings.{Placed}
 use Rattle.tm_nodes.specs.Items.{item_text, IsItemOfSize}
-use Rattle.tm_nodes.specs.Records.{item_of, volume_of}
+use Rattle.tm_nodes.specs.Records.{volume_of}
 use Rattle.tm_records.specs.declared.record.Body.TheVariants.{Empty, Kept, New}
-use Rattle.tm_records.specs.declared.record.Put.{Put}
 use Rattle.tm_records.specs.declared.record.Record.{Record}
-use Rattle.tm_records.specs.Records.{Records, at}
+use Rattle.tm_records.specs.Records.{at}
 use Rattle.tm_tree.specs.declared.item.Item.{Item}
 use Rattle.tm_tree.specs.declared.record.ItemRow.{ItemRow}
 use Rattle.tm_tree.specs.Changes.{most_bytes, written, write_at, place_at}
@@ -32,8 +30,7 @@ use Rattle.tm_volume.specs.Seen.{Seen, items_on, tree_on, volume_on, stored_on}
 use Rattle.tm_volume.specs.Spots.{IsInto, IsUnused}
 use Rattle.tm_volume.specs.Writes.{written_stored, write_tests, new_file_row, brings_first, IsBringing, IsBlobOf, WritesFile}
 use Rattle.tm_volume.proofs.Finding.{OnShelf}
-use Rattle.tm_volume.proofs.Goods.{AreGood, good_from, good_later}
-use Rattle.tm_volume.proofs.Placing.{IsHeldRow}
+use Rattle.tm_volume.proofs.Goods.{good_from, good_later}
 use Rattle.tm_volume.proofs.Redone.{row_held}
 use Rattle.tm_volume.proofs.Rows.{number_low}
 use Rattle.tm_volume.proofs.Made as made

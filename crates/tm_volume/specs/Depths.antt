@@ -1,5 +1,5 @@
 -- How far beneath an item others stand, by the index.
-use Rattle.std.specs.Prelude.{◌≡◌, ◌⊎◌, ◌==◌, ◌+◌, ℕ, Bool, not, Some, List, [], ◌∷◌, length}
+use Rattle.std.specs.Prelude.{◌≡◌, ◌⊎◌, ◌==◌, ℕ, Bool, not, Some, List, [], ◌∷◌, length}
 use Rattle.tm_base.specs.Paths.{Names}
 use Rattle.tm_items.specs.Index.{Numbers}
 use Rattle.tm_items.specs.Places.{at_name}

@@ -1,5 +1,5 @@
 //! Removals.
-ghost use Rattle.std.specs.Prelude.{◌≡◌, ◌≤◌, ◌<◌, ◌+◌, ◌^◌, ◌++◌, ℕ, List, IfOk, IfSome, IfNone};
+ghost use Rattle.std.specs.Prelude.{◌≡◌, ◌≤◌, ◌++◌, ℕ, List, IfOk};
 ghost use Rattle.tm_base.specs.Days.{last_moment};
 ghost use Rattle.tm_index.specs.Folders.{numbers_in};
 ghost use Rattle.tm_tree.specs.declared.change.Change.TheVariants.{Rm, Rmdir};
@@ -31,17 +31,6 @@ fn is_bare(numbers: &Index, number: u64) -> bool
 }
 
 impl Volume {
-    /// The next number after so many are drawn; none exactly where they are spent. It takes no
-    /// memory.
-    pub(crate) fn next_after(&self, count: u64) -> Option<u64>
-        requires { count ≤ 4 }
-        ensures some { IfSome result (λ next. (next ≡ self.now.tag.next + count) × (next ≤ 2 ^ 62)) }
-        ensures none { IfNone result (2 ^ 62 < self.now.tag.next + count) }
-    {
-        let next = self.next + count;
-        if next <= 1 << 62 { Some(next) } else { None }
-    }
-
     /// The edit that removes the item under a number in which nothing stands, and dates its folder.
     fn removal(
         &self,

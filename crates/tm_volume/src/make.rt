@@ -28,7 +28,7 @@ impl Volume {
 
     /// The next number after so many more are drawn; none exactly where that passes 2^62. It takes
     /// no memory.
-    pub(crate) fn drawn(&self, count: u64) -> Option<u64>
+    pub(crate) fn next_after(&self, count: u64) -> Option<u64>
         requires { count ≤ 2 ^ 62 }
         ensures some { IfSome result (λ next. (next ≡ self.now.tag.next + count) × (next ≤ 2 ^ 62)) }
         ensures none { IfNone result (2 ^ 62 < self.now.tag.next + count) }
@@ -53,7 +53,7 @@ impl Volume {
             Ok(folder) => folder,
             Err(why) => return Err(why),
         };
-        let Some(next) = self.drawn(2) else {
+        let Some(next) = self.next_after(2) else {
             return Err(LineFault::Refused(Refused::IdsSpent));
         };
         let Some(date) = moment else {

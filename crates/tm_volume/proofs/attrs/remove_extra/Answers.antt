@@ -1,10 +1,10 @@
-use Rattle.std.proofs.Common.{◌≡◌, ◌≤◌, List, ℕ, length, sym, ap, subst, arith}
+use Rattle.std.proofs.Common.{◌≡◌, length, sym, ap, subst, arith}
 use Rattle.std.specs.List.{All}
 use Rattle.std.specs.List.Sorted.{IsStrictlySortedBy}
 use Rattle.std.specs.Map.{keys_of}
 use Rattle.std.specs.BTreeMap.{is_at}
 use Rattle.tm_base.specs.Paths.{name_cmp}
-use Rattle.tm_nodes.specs.Attrs.{IsAttrs, IsExtra}
+use Rattle.tm_nodes.specs.Attrs.{IsExtra}
 use Rattle.tm_tree.specs.Extras.{Values, without_extra}
 use Rattle.tm_volume.proofs.Attributing.{each_without, fewer_without}
 use Rattle.tm_volume.proofs.attrs.remove_extra.Goals as goal

@@ -1,10 +1,10 @@
-use Rattle.std.proofs.Common.{◌≡◌, ◌≤◌, ◌+◌, List, ℕ, length, cond, is_some, sym, ap, ◌∙◌, subst, arith}
+use Rattle.std.proofs.Common.{◌≡◌, length, sym, ap, ◌∙◌, subst, arith}
 use Rattle.std.specs.List.{All}
 use Rattle.std.specs.List.Sorted.{IsStrictlySortedBy}
 use Rattle.std.specs.Map.{keys_of}
 use Rattle.tm_base.specs.Paths.{name_cmp}
-use Rattle.tm_nodes.specs.Attrs.{IsAttrs, IsExtra}
-use Rattle.tm_tree.specs.Extras.{Values, value_of, with_extra}
+use Rattle.tm_nodes.specs.Attrs.{IsExtra}
+use Rattle.tm_tree.specs.Extras.{Values, with_extra}
 use Rattle.tm_volume.proofs.Attributing.{each_with, length_with}
 use Rattle.tm_volume.proofs.Planning.{name_had}
 use Rattle.tm_volume.proofs.attrs.set_extra.Goals as goal

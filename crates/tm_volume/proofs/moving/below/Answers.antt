@@ -1,4 +1,4 @@
-use Rattle.std.proofs.Common.{ℕ, List, [], sym, ap, ◌∙◌, subst, append-nil}
+use Rattle.std.proofs.Common.{ℕ, List, [], sym, ◌∙◌, subst, append-nil}
 use Rattle.tm_index.specs.Folders.{numbers_in}
 use Rattle.tm_volume.specs.Depths.{AreBelow}
 use Rattle.tm_volume.proofs.Deepening.{below_none, below_turn, below_end}

@@ -1,4 +1,4 @@
-use Rattle.std.proofs.Common.{◌≡◌, ◌+◌, ◌-◌, ◌<◌, ◌≤◌, ℕ, None, arith}
+use Rattle.std.proofs.Common.{arith}
 use Rattle.tm_volume_records.specs.Records.{item_key}
 use Rattle.tm_volume.proofs.Gathering.{nothing_there, nothing_up_to}
 use Rattle.tm_volume.proofs.whole.number_from.Goals as goal

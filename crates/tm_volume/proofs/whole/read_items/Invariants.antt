@@ -1,4 +1,4 @@
-use Rattle.std.proofs.Common.{◌≡◌, ◌≤◌, ◌-◌, ℕ}
+use Rattle.std.proofs.Common.{◌≡◌, ◌≤◌, ◌-◌}
 use Rattle.tm_world.specs.Log.{now, Steps}
 use Rattle.tm_world.specs.Faults.{NeverLess}
 use Rattle.tm_world.specs.Outside.{disk}

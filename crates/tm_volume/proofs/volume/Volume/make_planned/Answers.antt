@@ -1,4 +1,4 @@
-use Rattle.std.proofs.Common.{◌≡◌, ◌≢◌, Ok, Err, Result, sym, ◌∙◌, ap, subst}
+use Rattle.std.proofs.Common.{◌≡◌, Result, sym, ap, subst}
 use Rattle.tm_base.specs.declared.refused.LineFault.{LineFault}
 use Rattle.tm_world.proofs.Going.{Runs-none}
 use Rattle.tm_world.specs.Outside.{disk}
@@ -6,7 +6,7 @@ use Rattle.tm_world.specs.Log.{now}
 use Rattle.tm_world.specs.declared.world.Side.TheVariants.{Volume as OfVolume}
 use Rattle.tm_volume.specs.declared.edit.Edit.{Edit}
 use Rattle.tm_volume.specs.Answers.{MeetsChange}
-use Rattle.tm_volume.specs.Plans.{IsGood, Plans, Writes}
+use Rattle.tm_volume.specs.Plans.{IsGood, Plans}
 use Rattle.tm_volume.specs.Seen.{stored_on}
 use Rattle.tm_volume.proofs.Having.{on_err}
 use Rattle.tm_volume.proofs.Telling.{fine_back, fault_back, err_back, planned_refused, told_meets, told_runs, both_errs}

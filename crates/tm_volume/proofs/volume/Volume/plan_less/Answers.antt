@@ -1,9 +1,9 @@
-use Rattle.std.proofs.Common.{◌≡◌, ℕ, ◌+◌, ◌^◌, ◌≤◌, Some, None, refl, sym, ◌∙◌, ap, subst, arith}
+use Rattle.std.proofs.Common.{◌≡◌, ℕ, ◌+◌, ◌^◌, ◌≤◌, sym, ◌∙◌, ap, arith}
 use Rattle.tm_tree.specs.Changes.{ids_spent}
 use Rattle.tm_volume.specs.Changes.{changed}
 use Rattle.tm_volume.specs.Seen.{stored_on, volume_on}
 use Rattle.tm_volume.proofs.Having.{on_shelf_of}
-use Rattle.tm_volume.proofs.Lacking.{no_moment, spent, drawn}
+use Rattle.tm_volume.proofs.Lacking.{no_moment, drawn}
 use Rattle.tm_volume.proofs.Lessening.{removal_edit, removal_plain, removal_good, removal_stored, removal_unstaged, removal_changed}
 use Rattle.tm_volume.proofs.volume.Volume.plan_less.Goals as goal
 
