@@ -6,7 +6,7 @@ use tm_memworld::{MemWorld, Memory};
 use tm_world::{Failed, Part, Side, World};
 
 /// A world with a volume of so many zero blocks, and much room.
-pub fn zeros(alloc: Global, blocks: u32) -> Result<MemWorld, Memory>
+pub(crate) fn zeros(alloc: Global, blocks: u32) -> Result<MemWorld, Memory>
     requires { blocks ≤ 262144 }
 {
     let mut world = MemWorld::new(alloc)?;
@@ -16,7 +16,7 @@ pub fn zeros(alloc: Global, blocks: u32) -> Result<MemWorld, Memory>
 }
 
 /// Attaches the volume.
-pub fn attach<W: World>(world: &mut W) -> Result<u32, Failed>
+pub(crate) fn attach<W: World>(world: &mut W) -> Result<u32, Failed>
     ensures blocks { IfOk result (λ n. W.blocks world.new Side.Volume ≡ n) }
     ensures small { IfOk result (λ n. n ≤ 262144) }
 {
@@ -24,7 +24,7 @@ pub fn attach<W: World>(world: &mut W) -> Result<u32, Failed>
 }
 
 /// Attaches the volume and reads a block.
-pub fn read_block<W: World>(world: &mut W, block: u32) -> Result<[u8; 4096], Failed> {
+pub(crate) fn read_block<W: World>(world: &mut W, block: u32) -> Result<[u8; 4096], Failed> {
     if block >= attach(world)? {
         return Err(Failed);
     }
@@ -34,7 +34,11 @@ pub fn read_block<W: World>(world: &mut W, block: u32) -> Result<[u8; 4096], Fai
 }
 
 /// Attaches the volume and writes a block.
-pub fn write_block<W: World>(world: &mut W, block: u32, bytes: &[u8; 4096]) -> Result<(), Failed> {
+pub(crate) fn write_block<W: World>(
+    world: &mut W,
+    block: u32,
+    bytes: &[u8; 4096],
+) -> Result<(), Failed> {
     if block >= attach(world)? {
         return Err(Failed);
     }
@@ -42,7 +46,12 @@ pub fn write_block<W: World>(world: &mut W, block: u32, bytes: &[u8; 4096]) -> R
 }
 
 /// Writes a byte of a block: by four calls, an attach before the read and one before the write.
-pub fn change<W: World>(world: &mut W, block: u32, at: usize, byte: u8) -> Result<(), Failed> {
+pub(crate) fn change<W: World>(
+    world: &mut W,
+    block: u32,
+    at: usize,
+    byte: u8,
+) -> Result<(), Failed> {
     let mut bytes = read_block(world, block)?;
     if let Some(there) = bytes.get_mut(at) {
         *there = byte;

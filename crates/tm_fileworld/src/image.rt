@@ -78,7 +78,8 @@ impl<F: Read + Write + Seek + OpenFile> Image<F> {
         write_all(&mut self.file, bytes)
     }
 
-    /// Makes what was written stable.
+    /// Makes what was written stable. Nothing that a file tells shows what is stable, so no clause
+    /// is owed but that of the world above, which counts the fault (`World::sync: cause`).
     pub fn sync(&self) -> Result<(), Failed> {
         self.file.sync_all().map_err(|_| Failed)
     }

@@ -24,8 +24,8 @@ pub fn one_outcome()
     store_fails_once();
 }
 
-/// A run over a pair that fits leaves one that fits, whatever stops it: so the next run is over a
-/// pair that fits too.
+/// Where a pair fits at the start of a run it does so at each backup; and at each moment of the run
+/// no image was touched yet, or whatever pair a stop leaves fits.
 pub fn fit_carries()
     ensures start { StartFits }
     ensures moments { MomentsFit }

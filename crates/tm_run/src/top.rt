@@ -47,7 +47,8 @@ pub fn run<W: World>(alloc: Global, words: &[String], world: &mut W) -> Status
     // Whatever a stop leaves after the last line reads as what is kept of the last state.
     ensures left { W.told → FitsRun (texts words.now) (now (W.log world.old)) → IsDone result → LeavesEnd (texts words.now) (now (W.log world.old)) (now (W.log world.new)) }
 
-    // Whatever a stop leaves at any moment reads as what is kept after a prefix of the commits, which has those of each line whose reply was said.
+    // At each moment no image was written to yet, or whatever a stop leaves reads as what is kept after a prefix of the commits, which has those of each line
+    // whose reply was said. Of a pair that doesn't read, or whose generations are spent, it says nothing.
     ensures any_moment { W.told → FitsRun (texts words.now) (now (W.log world.old)) → RunSurvives (texts words.now) (W.log world.old) (W.log world.new) }
 
     // A run that ends before the images are attached leaves all images as they were, at each moment.
