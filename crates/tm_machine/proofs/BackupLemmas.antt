@@ -3,8 +3,7 @@ use Rattle.std.proofs.Common.{◌≡◌, ⊎_elim, ℕ, Option, Some, None, Ok, 
 use Rattle.tm_base.specs.declared.refused.LineFault.TheVariants.{Refused as RefusedFor}
 use Rattle.tm_base.specs.declared.refused.Refused.{Refused}
 use Rattle.tm_reply.specs.declared.row.ReplyRow.{ReplyRow}
-use Rattle.tm_fit.specs.Fit.{Fits}
-use Rattle.tm_tree.specs.States.{StoreState, backed_up}
+use Rattle.tm_tree.specs.States.{StoreState}
 use Rattle.tm_store_records.specs.States.{StoredStore, StoreReads, LeavesStore}
 use Rattle.tm_volume.specs.Seen.{Seen as VolumeSeen, StandsOn, stored_on as volume_stored_on}
 use Rattle.tm_volume.specs.Stored.{StoredVolume}
@@ -18,12 +17,9 @@ use Rattle.tm_world.proofs.Pairs.{Runs-ends}
 use Rattle.tm_machine.specs.Backups.{AnswersBackup, AnswersCopy, IsOneOf, LeavesOneOf, dated, ends_as, finishes_as, unless, walk_refusal}
 use Rattle.tm_machine.specs.Steps.{at_rest}
 
--- what holds where a pair fits holds of the pair that is equal to it
-pub moved : (P : ℕ → StoreState → StoredVolume → Type 0) (b c : ℕ) (s t : StoreState) (v w : StoredVolume) → c ≡ b → t ≡ s → w ≡ v → (Fits (Some w.volume) (Some t) → P c t w) → Fits (Some v.volume) (Some s) → P b s v
-moved P b c s t v w e f g holds =
-    subst (λ (x : ℕ). Fits (Some v.volume) (Some s) → P x s v) e
-    (subst (λ (x : StoreState). Fits (Some v.volume) (Some x) → P c x v) f
-    (subst (λ (x : StoredVolume). Fits (Some x.volume) (Some t) → P c t x) g holds))
+-- what holds of a store and a volume holds of those that are equal to them
+pub moved : (P : ℕ → StoreState → StoredVolume → Type 0) (b c : ℕ) (s t : StoreState) (v w : StoredVolume) → c ≡ b → t ≡ s → w ≡ v → P c t w → P b s v
+moved P b c s t v w e f g holds = subst (λ (x : ℕ). P x s v) e (subst (λ (x : StoreState). P c x v) f (subst (λ (x : StoredVolume). P c t x) g holds))
 
 -- the volume's side stays while the store's runs
 module _ (P : Disk → Type 0) (start end : Log) (apart : AreApart (now start)) (runs : Runs StoreSide P start end) where
@@ -40,12 +36,12 @@ module _ (P : Disk → Type 0) (start end : Log) (apart : AreApart (now start)) 
   same_volume v = ap (λ (d : Disk). volume_stored_on v d.bytes) there
 
 -- a store as it stands, a volume, and the date of the backup
-module _ (blocks : ℕ) (z : StoredStore) (v : StoredVolume) (date : ℕ) where
+module _ (blocks : ℕ) (z : StoredStore) (v : StoredVolume) (date : ℕ) (new : StoreState) where
   abbrev walks : Option Refused
-  walks = walk_refusal blocks z.store v.volume date
+  walks = walk_refusal new blocks z.store v.volume
 
   abbrev later : List StoredStore
-  later = dated z.store date ∷ ends_as blocks z.store v.volume date ∷ []
+  later = dated z.store date ∷ ends_as new blocks z.store v.volume ∷ []
 
   first_of : (image : Image) → StoreReads image z → IsOneOf z later image
   first_of image reads = record { made = 0; few = omega arith; reads = reads }
@@ -53,24 +49,24 @@ module _ (blocks : ℕ) (z : StoredStore) (v : StoredVolume) (date : ℕ) where
   second_of : (image : Image) → StoreReads image (dated z.store date) → IsOneOf z later image
   second_of image reads = record { made = 1; few = omega arith; reads = reads }
 
-  third_of : (image : Image) → StoreReads image (ends_as blocks z.store v.volume date) → IsOneOf z later image
+  third_of : (image : Image) → StoreReads image (ends_as new blocks z.store v.volume) → IsOneOf z later image
   third_of image reads = record { made = 2; few = omega arith; reads = reads }
 
   one_begun : (d : Disk) → LeavesStore z (dated z.store date) d → LeavesOneOf z later d
   one_begun d left image is = ⊎_elim (first_of image) (second_of image) (left image is)
 
-  ends_refused : (why : Refused) → walks ≡ Some why → at_rest z.store ≡ ends_as blocks z.store v.volume date
-  ends_refused why e = sym (ap (λ (x : Option Refused). unless x (at_rest z.store) (at_rest (backed_up z.store v.volume date))) e)
+  ends_refused : (why : Refused) → walks ≡ Some why → at_rest z.store ≡ ends_as new blocks z.store v.volume
+  ends_refused why e = sym (ap (λ (x : Option Refused). unless x (at_rest z.store) (at_rest new)) e)
 
-  one_finished : (d : Disk) → LeavesStore (dated z.store date) (finishes_as blocks z.store v.volume date) d → LeavesOneOf z later d
+  one_finished : (d : Disk) → LeavesStore (dated z.store date) (finishes_as new blocks z.store v.volume date) d → LeavesOneOf z later d
   one_finished d left image is = ⊎_elim (second_of image) (by_walk walks refl) (left image is)
     where
-      by_walk : (w : Option Refused) → walks ≡ w → StoreReads image (finishes_as blocks z.store v.volume date) → IsOneOf z later image
+      by_walk : (w : Option Refused) → walks ≡ w → StoreReads image (finishes_as new blocks z.store v.volume date) → IsOneOf z later image
       by_walk None e reads = third_of image (subst (λ (x : StoredStore). StoreReads image x)
-          (ap (λ (x : Option Refused). unless x (dated z.store date) (at_rest (backed_up z.store v.volume date))) e
-          ∙ sym (ap (λ (x : Option Refused). unless x (at_rest z.store) (at_rest (backed_up z.store v.volume date))) e)) reads)
+          (ap (λ (x : Option Refused). unless x (dated z.store date) (at_rest new)) e
+          ∙ sym (ap (λ (x : Option Refused). unless x (at_rest z.store) (at_rest new)) e)) reads)
       by_walk (Some why) e reads = second_of image (subst (λ (x : StoredStore). StoreReads image x)
-          (ap (λ (x : Option Refused). unless x (dated z.store date) (at_rest (backed_up z.store v.volume date))) e) reads)
+          (ap (λ (x : Option Refused). unless x (dated z.store date) (at_rest new)) e) reads)
 
   one_cancelled : (why : Refused) → walks ≡ Some why → (old : StoredStore) → old ≡ dated z.store date → (d : Disk) → LeavesStore old (record { store = old.store; running = None }) d → LeavesOneOf z later d
   one_cancelled why refused old same d left image is = ⊎_elim
@@ -84,22 +80,22 @@ module _ (blocks : ℕ) (z : StoredStore) (v : StoredVolume) (date : ℕ) where
   begin_moments start end runs = Runs-weaker StoreSide (LeavesStore z (dated z.store date)) (LeavesOneOf z later) start end one_begun runs
 
   pub finish_moments : (start mid end : Log) → Runs StoreSide (LeavesStore z (dated z.store date)) start mid
-      → Runs StoreSide (LeavesStore (dated z.store date) (finishes_as blocks z.store v.volume date)) mid end → Runs StoreSide (LeavesOneOf z later) start end
+      → Runs StoreSide (LeavesStore (dated z.store date) (finishes_as new blocks z.store v.volume date)) mid end → Runs StoreSide (LeavesOneOf z later) start end
   finish_moments start mid end first second = Runs-then StoreSide (LeavesOneOf z later) start mid end (begin_moments start mid first)
-      (Runs-weaker StoreSide (LeavesStore (dated z.store date) (finishes_as blocks z.store v.volume date)) (LeavesOneOf z later) mid end one_finished second)
+      (Runs-weaker StoreSide (LeavesStore (dated z.store date) (finishes_as new blocks z.store v.volume date)) (LeavesOneOf z later) mid end one_finished second)
 
   pub cancel_moments : (start mid last end : Log) (old : StoredStore) (why : Refused) → Runs StoreSide (LeavesStore z (dated z.store date)) start mid
-      → Runs StoreSide (LeavesStore (dated z.store date) (finishes_as blocks z.store v.volume date)) mid last
-      → AnswersCopy blocks z.store v date old (Err (RefusedFor why)) → Runs StoreSide (LeavesStore old (record { store = old.store; running = None })) last end
+      → Runs StoreSide (LeavesStore (dated z.store date) (finishes_as new blocks z.store v.volume date)) mid last
+      → AnswersCopy new blocks z.store v date old (Err (RefusedFor why)) → Runs StoreSide (LeavesStore old (record { store = old.store; running = None })) last end
       → Runs StoreSide (LeavesOneOf z later) start end
   cancel_moments start mid last end old why first second answers third = Runs-then StoreSide (LeavesOneOf z later) start last end (finish_moments start mid last first second)
       (Runs-weaker StoreSide (LeavesStore old (record { store = old.store; running = None })) (LeavesOneOf z later) last end (one_cancelled why answers.0 old answers.1) third)
 
   -- ---- the answer
 
-  pub done_answers : (new : StoredStore) (found : List ReplyRow) → AnswersCopy blocks z.store v date new (Ok found) → AnswersBackup blocks z.store v date new (Ok found)
-  done_answers new found answers = answers
+  pub done_answers : (after : StoredStore) (found : List ReplyRow) → AnswersCopy new blocks z.store v date after (Ok found) → AnswersBackup new blocks z.store v date after (Ok found)
+  done_answers after found answers = answers
 
-  pub refused_answers : (old new : StoredStore) (why : Refused) → AnswersCopy blocks z.store v date old (Err (RefusedFor why)) → new.store ≡ old.store → new.running ≡ None
-      → AnswersBackup blocks z.store v date new (Err (RefusedFor why))
-  refused_answers old new why answers same idle = (answers.0, (λ i. record { store = (same ∙ ap (λ (x : StoredStore). x.store) answers.1) i; running = idle i }))
+  pub refused_answers : (old after : StoredStore) (why : Refused) → AnswersCopy new blocks z.store v date old (Err (RefusedFor why)) → after.store ≡ old.store → after.running ≡ None
+      → AnswersBackup new blocks z.store v date after (Err (RefusedFor why))
+  refused_answers old after why answers same idle = (answers.0, (λ i. record { store = (same ∙ ap (λ (x : StoredStore). x.store) answers.1) i; running = idle i }))

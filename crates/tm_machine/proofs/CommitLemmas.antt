@@ -1,12 +1,11 @@
 -- The last commit, and that each line has a reply.
-use Rattle.std.proofs.Common.{◌≡◌, ℕ, ◌<◌, Bool, true, false, if◌then◌else◌, Option, Some, None, List, [], ◌∷◌, ◌++◌, length, codes, refl, ap, ◌∙◌, arith}
+use Rattle.std.proofs.Common.{◌≡◌, ℕ, ◌<◌, Bool, true, false, if◌then◌else◌, Option, Some, None, List, [], ◌∷◌, ◌++◌, length, codes, refl, arith}
 use Rattle.std.proofs.lemmas.List.{length-append}
 use Rattle.tm_base.specs.declared.refused.Refused.{Refused}
 use Rattle.std.specs.Fmt.{decimal}
 use Rattle.tm_base.specs.Refusals.{number_of}
 use Rattle.tm_reply.specs.Closings.{closing_text, refusal_text}
 use Rattle.tm_reply.specs.Layout.{line_of}
-use Rattle.tm_reply.specs.Replies.{reply_text, rows_text}
 use Rattle.tm_text.specs.declared.line.Line.{Line}
 use Rattle.tm_text.specs.declared.line.Line.TheVariants as line
 use Rattle.tm_store_records.specs.States.{StoredStore}
@@ -16,8 +15,8 @@ use Rattle.tm_volume.specs.Stored.{StoredVolume}
 use Rattle.tm_machine.specs.Changing.{change_of}
 use Rattle.tm_machine.specs.States.{State, Stored, kept, opened}
 use Rattle.tm_machine.specs.Steps as steps
-use Rattle.tm_machine.specs.Steps.{after, after_by, left, left_by, other_after, other_left, refusal, reply, start_tests, step}
-use Rattle.tm_machine.specs.Commits.{last_from, opening, other_commits, other_undone, ending, undone, undone_by, commits_by, unless_refused, commits_of, commits, LastOfLine, LastOfLines, LastOfOpening, RepliesAreSome}
+use Rattle.tm_machine.specs.Steps.{after, after_by, left, left_by, other_after, other_left, refusal, start_tests, step}
+use Rattle.tm_machine.specs.Commits.{last_from, opening, other_commits, other_undone, ending, undone, undone_by, commits_by, unless_refused, commits_of, LastOfOpening}
 
 pub last_from-append : {A : Type 0} (x : A) (xs ys : List A) → last_from x (xs ++ ys) ≡ last_from (last_from x xs) ys
 last_from-append x [] ys = refl
@@ -37,7 +36,7 @@ ending_last : (why : Option Refused) (s : State) → last_from (kept s) (ending 
 ending_last None s = refl
 ending_last (Some why) s = refl
 
-other_undone_last : (s : State) (l : Line) → last_from (kept s) (other_undone s l) ≡ kept (other_left s l)
+pub other_undone_last : (s : State) (l : Line) → last_from (kept s) (other_undone s l) ≡ kept (other_left s l)
 other_undone_last s line.StartBackupBlock = ending_last (first_refused (start_tests s)) s
 other_undone_last s _ = refl
 
@@ -45,21 +44,15 @@ undone_last : (s : State) (l : Line) (c : Option Change) → last_from (kept s) 
 undone_last s l (Some c) = refl
 undone_last s l None = other_undone_last s l
 
-unless_last : (why : Option Refused) (s left new : State) (undone made : List Stored) → last_from (kept s) undone ≡ kept left → last_from (kept s) made ≡ kept new
+pub unless_last : (why : Option Refused) (s left new : State) (undone made : List Stored) → last_from (kept s) undone ≡ kept left → last_from (kept s) made ≡ kept new
     → last_from (kept s) (unless_refused why undone made) ≡ kept (steps.unless_refused why left new)
 unless_last None s left new undone made g h = h
 unless_last (Some why) s left new undone made g h = g
 
-pub last_of_line : LastOfLine
+-- the last commit of a line of the plain machine is what is kept of the state after it
+pub last_of_line : (s : State) (l : Line) → last_from (kept s) (commits_of s l) ≡ kept (step s l)
 last_of_line s l =
     unless_last (refusal s l) s (left s l) (after s l) (undone s l) (commits_by s l (change_of l)) (undone_last s l (change_of l)) (made_last s l (change_of l))
-
-pub last_of_lines : LastOfLines
-last_of_lines s [] = refl
-last_of_lines s (l ∷ lines) =
-    last_from-append (kept s) (commits_of s l) (commits (step s l) lines)
-    ∙ ap (λ (x : Stored). last_from x (commits (step s l) lines)) (last_of_line s l)
-    ∙ last_of_lines (step s l) lines
 
 abbrev with_volume : StoredVolume → Option StoredStore → Stored
 with_volume v z = record { volume = Some v; store = z }
@@ -76,11 +69,7 @@ opened_last n k (Some v) z = clean_last v.clean v _ z
 pub last_of_opening : LastOfOpening
 last_of_opening n k r = opened_last n k r.volume r.store
 
-closing_some : (why : Option Refused) → 0 < length (closing_text why)
+pub closing_some : (why : Option Refused) → 0 < length (closing_text why)
 unfolding closing_text
 closing_some None = omega (arith, length-append (codes "ok") (0x0A ∷ []))
 closing_some (Some r) = omega (arith, length-append (codes "refused") (0x20 ∷ line_of (decimal (number_of r) ∷ refusal_text r ∷ [])))
-
-pub replies_are_some : RepliesAreSome
-unfolding reply_text
-replies_are_some s l = omega (arith, closing_some (reply s l).refused, length-append (rows_text (reply s l).rows) (closing_text (reply s l).refused))

@@ -7,17 +7,19 @@ use Rattle.tm_base.specs.declared.refused.Refused.TheVariants.{Full}
 use Rattle.tm_reply.specs.declared.row.ReplyRow.{ReplyRow}
 use Rattle.tm_tree.specs.declared.rows.Mark.{Mark}
 use Rattle.tm_tree.specs.Refusing.{Tests, first_refused, too_many}
-use Rattle.tm_tree.specs.States.{StoreState, backed_up, base}
+use Rattle.tm_tree.specs.States.{StoreState, VolumeState, backed_up, base}
+use Rattle.tm_tree.specs.Copies.{LabelledTree}
+use Rattle.tm_fit.specs.Fit.{Fits}
 use Rattle.tm_tree.specs.Views.{view}
 use Rattle.tm_graph.specs.declared.built.Built.{Built}
 use Rattle.tm_image.specs.Room.{free_of, need_of}
 use Rattle.tm_store.specs.Answers.{IfRefused, OnRefusal, UnlessFault}
 use Rattle.tm_store_growth.specs.Completing.{after_complete, complete_refusal, count_after, unless as unless_refusal}
-use Rattle.tm_store_records.specs.Built.{all_nodes, completed, snapshot_built}
+use Rattle.tm_store_records.specs.Built.{all_nodes, completed, files_built, snapshot_built}
 use Rattle.tm_store_records.specs.Held.{Held, IsWhole, store_on, stored_on}
 use Rattle.tm_store_records.specs.Room.{store_blocks}
 use Rattle.tm_store_records.specs.Sizes.{IsSized, free_blocks, node_count, table_blocks}
-use Rattle.tm_store_records.specs.States.{StoredStore, StoreReads, LeavesStore, LeavesOneStore}
+use Rattle.tm_store_records.specs.States.{StoredStore, StoreReads, LeavesStore, LeavesOneStore, snapshot_on}
 use Rattle.tm_volume.specs.Stored.{StoredVolume}
 use Rattle.tm_world.specs.Disk.{Disk}
 use Rattle.tm_world.specs.Log.{Log}
@@ -28,7 +30,7 @@ use Rattle.tm_backup.specs.Answers.{Stages}
 use Rattle.tm_store_growth.specs.Sizes.{AreCompletedSizes}
 use Rattle.tm_backup.specs.Steps.{Went, store_bytes}
 use Rattle.tm_backup.specs.Walk.{first_full, staging}
-use Rattle.tm_machine.specs.Backups.{AnswersCopy, dated, finishes_as, unless, walk_refusal}
+use Rattle.tm_machine.specs.Backups.{AnswersCopy, MayFinishAs, backed_with, copy_of, dated, finishes_as, unless, walk_refusal}
 use Rattle.tm_machine.specs.Steps.{at_rest, finish_tests, finished_rows, most_nodes, staging_tests}
 use Rattle.tm_machine.proofs.StoreLines.{first_none}
 
@@ -56,7 +58,7 @@ at_date P None date e h = absurd (cc e)
 at_date P (Some d) date e h = subst P (let same : d ≡ date = cc e in same) h
 
 -- a store in which a backup of this date runs, and a volume
-module _ (blocks : ℕ) (old : Held) (old_bytes : ℕ → List ℕ) (v : StoredVolume) (date : ℕ)
+module _ (blocks : ℕ) (old : Held) (old_bytes : ℕ → List ℕ) (v : StoredVolume) (date : ℕ) (new : StoreState)
     (whole : IsWhole old) (sized : IsSized old (store_on old old_bytes)) (count : length old.image.used ≡ blocks) (running : old.running ≡ Some date) (unstaged : old.staged ≡ []) where
   abbrev s : StoreState
   s = store_on old old_bytes
@@ -68,13 +70,13 @@ module _ (blocks : ℕ) (old : Held) (old_bytes : ℕ → List ℕ) (v : StoredV
   table = store_blocks old.machine old.snapshots old.nodes
 
   abbrev walks : Option Refused
-  walks = walk_refusal blocks s v.volume date
+  walks = walk_refusal new blocks s v.volume
 
   abbrev later : Tests
-  later = too_many most_nodes (node_count (backed_up s v.volume date)) ++ finish_tests blocks s (backed_up s v.volume date) (sum staged)
+  later = too_many most_nodes (node_count new) ++ finish_tests blocks s new (sum staged)
 
   in_turn : walks ≡ first_refused (staging_tests (table_blocks s) (free_blocks blocks s) staged ++ later)
-  in_turn = joined (staging_tests (table_blocks s) (free_blocks blocks s) staged) (too_many most_nodes (node_count (backed_up s v.volume date))) (finish_tests blocks s (backed_up s v.volume date) (sum staged))
+  in_turn = joined (staging_tests (table_blocks s) (free_blocks blocks s) staged) (too_many most_nodes (node_count new)) (finish_tests blocks s new (sum staged))
 
   free_is : free_of old.image ≡ free_blocks blocks s
   free_is = let none : length old.staged ≡ 0 = ap (λ (xs : List ℕ). length xs) unstaged in let all : free_of old.image + length old.staged ≡ free_blocks blocks s = sized.free ∙ ap (λ n. free_blocks n s) count in omega (arith, none, all)
@@ -94,7 +96,7 @@ module _ (blocks : ℕ) (old : Held) (old_bytes : ℕ → List ℕ) (v : StoredV
   -- ---- a copy that is refused
 
   pub copy_answers : (A : Type 0) (told : Type 0) (proof : told) (h : Held) (left : ℕ) (start end : Log) → store_bytes start ≡ old_bytes → (why : LineFault) → Stages {A = A} table (free_of old.image) left staged (Err why)
-      → UnlessFault {A = A} (Err why) (Went told old h start end) → AnswersCopy blocks s v date (stored_on h (store_bytes end)) (Err why)
+      → UnlessFault {A = A} (Err why) (Went told old h start end) → AnswersCopy new blocks s v date (stored_on h (store_bytes end)) (Err why)
   copy_answers A told proof h left start end first (RefusedFor why) stages went = (refused_copy why stages, stays)
     where
       stays : stored_on h (store_bytes end) ≡ dated s date
@@ -106,10 +108,7 @@ module _ (blocks : ℕ) (old : Held) (old_bytes : ℕ → List ℕ) (v : StoredV
 
   module _ (h : Held) (built : Built) (name : List ℕ) (id : ℕ) (mark : Mark) (bytes : ℕ → List ℕ) (same : h ≡ record old { image = h.image; staged = h.staged }) (state : store_on h bytes ≡ s)
       (full : first_full table (free_of old.image) staged ≡ None) (room : free_of h.image + sum staged ≡ free_of old.image)
-      (sizes : AreCompletedSizes h built date name id mark bytes) (is : completed h built date name id mark bytes ≡ backed_up s v.volume date) where
-    abbrev new : StoreState
-    new = backed_up s v.volume date
-
+      (sizes : AreCompletedSizes h built date name id mark bytes) (is : completed h built date name id mark bytes ≡ new) where
     rest : walks ≡ first_refused (too_many most_nodes (node_count new) ++ finish_tests blocks s new (sum staged))
     rest = in_turn ∙ first_none (staging_tests (table_blocks s) (free_blocks blocks s) staged) later
         (staged_same (table_blocks s) (free_blocks blocks s) staged ∙ sym (λ i. first_full (sized.table i) (free_is i) staged) ∙ full)
@@ -126,7 +125,7 @@ module _ (blocks : ℕ) (old : Held) (old_bytes : ℕ → List ℕ) (v : StoredV
     pub stored_is : stored_on h bytes ≡ dated s date
     stored_is = (λ i. record { store = state i; running = (ap (λ (x : Held). x.stored) same ∙ (whole.runs date running).0) i })
 
-    after_by : (w : Option Refused) → complete_refusal h built date name id mark ≡ w → walks ≡ w → after_complete h built date name id mark bytes ≡ finishes_as blocks s v.volume date
+    after_by : (w : Option Refused) → complete_refusal h built date name id mark ≡ w → walks ≡ w → after_complete h built date name id mark bytes ≡ finishes_as new blocks s v.volume date
     after_by None e f =
         ap (λ (x : Option Refused). unless_refusal x (stored_on h bytes) (record { store = completed h built date name id mark bytes; running = None })) e
         ∙ ap at_rest is
@@ -136,26 +135,48 @@ module _ (blocks : ℕ) (old : Held) (old_bytes : ℕ → List ℕ) (v : StoredV
         ∙ stored_is
         ∙ sym (ap (λ (x : Option Refused). unless x (dated s date) (at_rest new)) f)
 
-    after_is : after_complete h built date name id mark bytes ≡ finishes_as blocks s v.volume date
+    after_is : after_complete h built date name id mark bytes ≡ finishes_as new blocks s v.volume date
     after_is = after_by walks refusal_same refl
 
     pub finish_moments : (start mid end : Log) → Runs StoreSide (LeavesOneStore (stored_on old old_bytes)) start mid
-        → Runs StoreSide (LeavesStore (stored_on h bytes) (after_complete h built date name id mark bytes)) mid end → Runs StoreSide (LeavesStore (dated s date) (finishes_as blocks s v.volume date)) start end
+        → Runs StoreSide (LeavesStore (stored_on h bytes) (after_complete h built date name id mark bytes)) mid end → Runs StoreSide (LeavesStore (dated s date) (finishes_as new blocks s v.volume date)) start end
     finish_moments start mid end first second = Runs-then StoreSide _ start mid end
-        (copy_moments (finishes_as blocks s v.volume date) start mid first)
-        (subst (λ (x : StoredStore). Runs StoreSide (LeavesStore x (finishes_as blocks s v.volume date)) mid end) stored_is
+        (copy_moments (finishes_as new blocks s v.volume date) start mid first)
+        (subst (λ (x : StoredStore). Runs StoreSide (LeavesStore x (finishes_as new blocks s v.volume date)) mid end) stored_is
         (subst (λ (x : StoredStore). Runs StoreSide (LeavesStore (stored_on h bytes) x) mid end) after_is second))
 
     pub refused_answers : (A : Type 0) (X : Type 0) (g : Held) (more : ℕ → List ℕ) (why : LineFault) → IfRefused {A = A} (Err why) (λ w. complete_refusal h built date name id mark ≡ Some w)
-        → IfRefused {A = A} (Err why) (λ w. g ≡ h) → OnRefusal {A = A} (Err why) X → (X → more ≡ bytes) → AnswersCopy blocks s v date (stored_on g more) (Err why)
+        → IfRefused {A = A} (Err why) (λ w. g ≡ h) → OnRefusal {A = A} (Err why) X → (X → more ≡ bytes) → AnswersCopy new blocks s v date (stored_on g more) (Err why)
     refused_answers A X g more (RefusedFor why) refused err untouched gives =
         (sym refusal_same ∙ refused, (λ i. stored_on (err i) (gives untouched i)) ∙ stored_is)
     refused_answers A X g more (Fault side) refused err untouched gives = tt
     refused_answers A X g more Memory refused err untouched gives = tt
 
     pub done_answers : (g : Held) (more : ℕ → List ℕ) (found : List ReplyRow) → complete_refusal h built date name id mark ≡ None → store_on g more ≡ completed h built date name id mark bytes → g.stored ≡ None
-        → found ≡ finished_rows (Some date) v → AnswersCopy blocks s v date (stored_on g more) (Ok found)
+        → found ≡ finished_rows (Some date) v → AnswersCopy new blocks s v date (stored_on g more) (Ok found)
     done_answers g more found none is_done idle rows = (sym refusal_same ∙ none, rows, (λ i. record { store = (is_done ∙ is) i; running = idle i }))
+
+-- what was built makes such a store
+module _ (h : Held) (built : Built) (date : ℕ) (v : VolumeState) (bytes : ℕ → List ℕ) where
+  abbrev pub mark_of : Mark
+  mark_of = record { generation = v.generation; cursor = v.contents.next - 1 }
+
+  abbrev pub finished_as : StoreState
+  finished_as = completed h built date v.name v.id mark_of bytes
+
+  abbrev tree_of : LabelledTree
+  tree_of = (snapshot_on (files_built h built bytes) (all_nodes h built) (snapshot_built h built date v.name v.id mark_of)).tree
+
+  pub may_finish_as : (s : StoreState) → store_on h bytes ≡ s → (Fits (Some v) (Some s) → finished_as ≡ backed_up s v date) → MayFinishAs s v date finished_as
+  may_finish_as s state exact = record {
+    tree = tree_of;
+    is = ap (λ (x : StoreState). backed_with tree_of x v date) state;
+    exact = exact;
+  }
+
+-- a copy that doesn't come to its end
+pub may_be_plain : (s : StoreState) (v : VolumeState) (date : ℕ) → MayFinishAs s v date (backed_up s v date)
+may_be_plain s v date = record { tree = copy_of s v; is = refl; exact = λ fits. refl }
 
 pub runs_alone : (P : Disk → Type 0) (start end : Log) → Runs StoreSide P start end → Runs StoreSide (λ _. Unit {0}) start end
 runs_alone P start end runs = Runs-weaker StoreSide P (λ _. Unit {0}) start end (λ d p. tt) runs

@@ -16,7 +16,7 @@ use Rattle.tm_store_records.specs.States.{StoredStore}
 use Rattle.tm_volume.specs.Changes as volume
 use Rattle.tm_volume.specs.Stored.{StoredVolume}
 use Rattle.tm_machine.specs.Changing.{change_of}
-use Rattle.tm_machine.specs.Fitting.{PairFits, FitsFor, FitLasts}
+use Rattle.tm_machine.specs.Fitting.{PairFits}
 use Rattle.tm_machine.specs.States.{State, store_in}
 use Rattle.tm_machine.specs.Steps.{after, after_by, at_rest, backed, changed, change_tests, ended, is_taken, left, left_by, new_volume_tests, other_after, other_left, other_tests, refusal, start_tests, step, tests_by, unless_refused}
 
@@ -102,11 +102,3 @@ module _ (laws : FitLaws) where
 
   pub step_fits : (s : State) (l : Line) → PairFits s → PairFits (step s l)
   step_fits s l h = by_refusal s l (refusal s l) refl h
-
-  fits_for : (s : State) (l : Line) → PairFits s → FitsFor s l
-  fits_for s line.StartBackupBlock h = h
-  fits_for s _ h = tt
-
-  pub fit_lasts : FitLasts
-  fit_lasts s [] h = tt
-  fit_lasts s (l ∷ lines) h = (fits_for s l h, fit_lasts (step s l) lines (step_fits s l h))

@@ -1,8 +1,8 @@
--- A pair that fits does so in whatever a stop leaves, and when it is opened.
-use Rattle.std.proofs.Common.{◌≡◌, ℕ, ◌+◌, Bool, true, false, if◌then◌else◌, Option, Some, None, [], ◌∷◌, refl, arith}
+-- A pair that fits does so in whatever a stop leaves, once it is opened again.
+use Rattle.std.proofs.Common.{◌≡◌, ℕ, zero, suc, ◌+◌, Bool, true, false, if◌then◌else◌, Option, Some, None, List, [], ◌∷◌, ◌++◌, take, refl, sym, subst, arith}
 use Rattle.std.specs.List.{All}
 use Rattle.std.specs.Option.{option_map}
-use Rattle.std.proofs.lemmas.List.Elements.{All-nil, All-cons, All-append}
+use Rattle.std.proofs.lemmas.List.Elements.{All-nil, All-cons, All-append, All-head, All-tail}
 use Rattle.tm_base.specs.declared.refused.Refused.{Refused}
 use Rattle.tm_text.specs.declared.line.Line.{Line}
 use Rattle.tm_text.specs.declared.line.Line.TheVariants as line
@@ -13,11 +13,17 @@ use Rattle.tm_fit.specs.Fit.{Fits}
 use Rattle.tm_store_records.specs.States.{StoredStore}
 use Rattle.tm_volume.specs.Stored.{StoredVolume, reopened}
 use Rattle.tm_machine.specs.Changing.{change_of}
-use Rattle.tm_machine.specs.Commits.{commits, commits_by, commits_of, ending, opening_of, other_commits, other_undone, started, undone_by, unless_refused}
-use Rattle.tm_machine.specs.Fitting.{CommitsFit, FitOpens, PairFits, StoredFits}
-use Rattle.tm_machine.specs.States.{State, Stored, store_in}
+use Rattle.tm_machine.specs.Commits.{commits, commits_by, commits_of, ending, last_from, opening, opening_of, other_commits, other_undone, started, undone_by, unless_refused}
+use Rattle.tm_machine.specs.Fitting.{FitsReopened, PairFits}
+use Rattle.tm_machine.specs.Histories.{HeldFits, commits_in, plain_of}
+use Rattle.tm_machine.specs.States.{State, Stored, opened, store_in}
 use Rattle.tm_machine.specs.Steps.{begun, other_after, refusal, start_tests, step, tests_by}
 use Rattle.tm_machine.proofs.FitLemmas.{FitLaws, after_fits, ended_fits, step_fits}
+use Rattle.tm_machine.proofs.PlainLemmas.{plain_commits}
+
+-- what the images keep fits as it is
+abbrev StoredFits : Stored → Type 0
+StoredFits r = Fits (option_map (λ v. v.volume) r.volume) (store_in r.store)
 
 -- ---- opening
 
@@ -34,12 +40,9 @@ module _ (laws : FitLaws) where
   by_mark true r h = All-nil StoredFits
   by_mark false r h = All-cons StoredFits r [] h (All-nil StoredFits)
 
-  opening_fits : (v : Option StoredVolume) (z : Option StoredStore) → Fits (option_map (λ x. x.volume) v) (store_in z) → All StoredFits (opening_of v z)
-  opening_fits None z h = All-nil StoredFits
-  opening_fits (Some v) z h = by_mark v.clean (record { volume = Some (reopened v); store = z }) (reopened_fits (Some v) (store_in z) h)
-
-  pub fit_opens : FitOpens
-  fit_opens n k r h = (reopened_fits r.volume (store_in r.store) h, opening_fits r.volume r.store h)
+  -- and so it does when it is opened
+  reopens : (r : Stored) → StoredFits r → FitsReopened r
+  reopens r h n k = reopened_fits r.volume (store_in r.store) h
 
 -- ---- lines
 
@@ -85,7 +88,30 @@ module _ (laws : FitLaws) where
   by_refusal s l None e h = made_fits s l (change_of l) e h
   by_refusal s l (Some why) e h = undone_fits s l (change_of l) h
 
-  pub commits_fit : CommitsFit
+  commits_fit : (s : State) (lines : List Line) → PairFits s → All StoredFits (commits s lines)
   commits_fit s [] h = All-nil StoredFits
   commits_fit s (l ∷ lines) h =
       All-append StoredFits (commits_of s l) (commits (step s l) lines) (by_refusal s l (refusal s l) refl h) (commits_fit (step s l) lines (step_fits laws s l h))
+
+  -- ---- at a moment of a run
+
+  each_reopens : (rs : List Stored) → All StoredFits rs → All FitsReopened rs
+  each_reopens rs all k d low = reopens laws _ (all k d low)
+
+  opening_reopens : (v : Option StoredVolume) (z : Option StoredStore) → Fits (option_map (λ x. x.volume) (option_map reopened v)) (store_in z) → All StoredFits (opening_of v z)
+  opening_reopens None z h = All-nil StoredFits
+  opening_reopens (Some v) z h = by_mark laws v.clean (record { volume = Some (reopened v); store = z }) h
+
+  -- any first part of a list of fitting commits ends in one
+  last_fits : (r : Stored) (later : List Stored) (made : ℕ) → FitsReopened r → All FitsReopened later → FitsReopened (last_from r (take made later))
+  last_fits r later zero h all = h
+  last_fits r [] (suc made) h all = h
+  last_fits r (x ∷ later) (suc made) h all = last_fits x later made (All-head FitsReopened x later all) (All-tail FitsReopened x later all)
+
+  pub held_fits : HeldFits
+  held_fits n k lines r made fits =
+      let s = opened n k r in
+      let lines_fit : All FitsReopened (commits_in (plain_of s lines)) = subst (All FitsReopened) (sym (plain_commits s lines)) (each_reopens (commits s lines) (commits_fit s lines (fits n k))) in
+      last_fits r (opening r ++ (commits_in (plain_of s lines) ++ [])) made fits
+      (All-append FitsReopened (opening r) (commits_in (plain_of s lines) ++ []) (each_reopens (opening r) (opening_reopens r.volume r.store (fits 0 0)))
+      (All-append FitsReopened (commits_in (plain_of s lines)) [] lines_fit (All-nil FitsReopened)))

@@ -2,7 +2,6 @@ pub mod Reading
 pub mod CommitLemmas
 pub mod FitLemmas
 pub mod FitStops
-pub mod StopLemmas
 pub mod Resting
 pub mod QueryLines
 pub mod VolumeLines
@@ -14,3 +13,5 @@ pub mod DoesBackup
 pub mod StoredLemmas
 pub mod OpeningLemmas
 pub mod ListingLemmas
+pub mod Allowing
+pub mod PlainLemmas

@@ -22,10 +22,10 @@ use Rattle.tm_store_records.specs.Held.{Held, stored_on as store_stored_on}
 use Rattle.tm_store_records.specs.States.{StoredStore, StoreReads, StoreFails}
 use Rattle.tm_machine.specs.Commits.{opening, opening_of}
 use Rattle.tm_machine.specs.States.{Stored, opened}
-use Rattle.tm_machine.specs.Stops.{CanOpen, CanOpenStore, IsAmong, IsBadSide, LeavesCommits, ReadsNow}
+use Rattle.tm_machine.specs.Stops.{CanOpen, CanOpenStore, IsAmong, IsBadSide, IsOpening, LeavesBegun, LeavesCommits, ReadsNow}
 use Rattle.tm_world.proofs.Pairs.{Runs-ends}
 use Rattle.tm_machine.specs.Session.{IsSynced, Standing, StoreStands, VolumeStands, state_on}
-use Rattle.tm_machine.proofs.Resting.{pair, seen, stored_in, held_in, volume_moments, rest_moment, none_made, one_made}
+use Rattle.tm_machine.proofs.Resting.{framed_same, pair, runs_framed, seen, stored_in, held_in, volume_moments, rest_moment, none_made, one_made}
 
 -- ---- an image of which nothing is unsynced
 
@@ -144,24 +144,29 @@ opening_among : (r : Option StoredVolume) (z : Option StoredStore) (u w : Image)
 opening_among None z u w h reads = ⊎_elim (λ is. none_made None z [] u w is reads) (λ is. none_made None z [] u w is reads) h
 opening_among (Some s) z u w h reads = opening_case s.clean s _ z u w h reads
 
-pub opening_moments : (r : Stored) (old new : Log) → IsSynced (now old) → ReadsNow r (now old) → Runs VolumeSide (LeavesEither r.volume (option_map reopened r.volume)) old new
-    → Passes old new (LeavesCommits r (opening r) (now old).said)
-opening_moments r old new synced reads runs =
-    volume_moments r.volume (option_map reopened r.volume) r.store (opening r) old new synced.apart (stable_store (disk StoreSide (now old)) r.store synced.store_stable reads.store_reads) (opening_among r.volume r.store) runs
+-- a side that is unformatted is only read
+abbrev pub BlankReads : Log → Log → Type 0
+BlankReads old new = SideReads (as_read (disk VolumeSide (now old))) None → Steps old new (now old)
+
+pub opening_moments : (r : Stored) (old new : Log) → IsSynced (now old) → ReadsNow r (now old) → BlankReads old new → Runs VolumeSide (LeavesEither r.volume (option_map reopened r.volume)) old new
+    → Passes old new (LeavesCommits r (opening r) (now old))
+opening_moments r old new synced reads blank runs =
+    volume_moments r.volume (option_map reopened r.volume) r.store (opening r) old new synced.apart (stable_store (disk StoreSide (now old)) r.store synced.store_stable reads.store_reads) (opening_among r.volume r.store)
+    (λ none few. blank (subst (SideReads (as_read (disk VolumeSide (now old)))) none reads.volume_reads)) runs
 
 -- before anything is done
-at_first : (r : Stored) (o : Outside) → IsSynced o → ReadsNow r o → LeavesCommits r (opening r) o.said o
+at_first : (r : Stored) (o : Outside) → IsSynced o → ReadsNow r o → LeavesCommits r (opening r) o o
 at_first r o synced reads = rest_moment r (opening r) o synced.apart (λ v z v_left z_left. record {
   volume_reads = stable_leaves (disk VolumeSide o) r.volume synced.volume_stable reads.volume_reads v v_left;
   store_reads = stable_store (disk StoreSide o) r.store synced.store_stable reads.store_reads z z_left;
 })
 
 -- and then the store is read
-pub opening_reads : (r : Stored) (old mid new : Log) → IsSynced (now old) → ReadsNow r (now old) → Runs VolumeSide (LeavesEither r.volume (option_map reopened r.volume)) old mid
-    → Steps mid new (now mid) → Passes old new (LeavesCommits r (opening r) (now old).said)
-opening_reads r old mid new synced reads runs steps =
-    let first = opening_moments r old mid synced reads runs in
-    Passes-then old mid new _ first (Passes-weaker mid new _ _ (λ o e. subst (LeavesCommits r (opening r) (now old).said) (sym e) (Passes-now old mid _ first (at_first r (now old) synced reads))) steps.passes)
+pub opening_reads : (r : Stored) (old mid new : Log) → IsSynced (now old) → ReadsNow r (now old) → BlankReads old mid → Runs VolumeSide (LeavesEither r.volume (option_map reopened r.volume)) old mid
+    → Steps mid new (now mid) → Passes old new (LeavesCommits r (opening r) (now old))
+opening_reads r old mid new synced reads blank runs steps =
+    let first = opening_moments r old mid synced reads blank runs in
+    Passes-then old mid new _ first (Passes-weaker mid new _ _ (λ o e. subst (LeavesCommits r (opening r) (now old)) (sym e) (Passes-now old mid _ first (at_first r (now old) synced reads))) steps.passes)
 
 -- what the opened session stands on
 pub opened_standing : (n k : ℕ) (v : Option VolumeSeen) (h : Option Held) (old mid new : Log) → AreApart (now old) → Runs VolumeSide (λ _. Unit {0}) old mid → Steps mid new (now mid)
@@ -213,3 +218,34 @@ store_opens h d is = record { store = Some (store_stored_on h d.bytes); reads = 
 
 pub unformatted_store_opens : (image : Image) → IsUnformattedStore image → CanOpenStore image
 unformatted_store_opens image un = record { store = None; reads = un }
+
+-- ---- what stands at both sides while the volume is opened, whatever the images are
+
+pub opening_alone : (old new : Log) → AreApart (now old) → Runs VolumeSide (λ _. Unit {0}) old new → Passes old new (IsOpening (now old))
+opening_alone old new apart runs = Passes-weaker old new _ (IsOpening (now old))
+    (λ o at. record { framed = at.framed; said = at.beside.said; store_same = at.beside.there })
+    (runs_framed VolumeSide (λ _. Unit {0}) old new apart runs)
+
+pub begun_moments : (v : Option StoredVolume) (old new : Log) → AreApart (now old) → Runs VolumeSide (LeavesEither v (option_map reopened v)) old new → Passes old new (LeavesBegun v)
+begun_moments v old new apart runs = Passes-weaker old new _ (LeavesBegun v) (λ o at. at.beside.here) (runs_framed VolumeSide (LeavesEither v (option_map reopened v)) old new apart runs)
+
+-- and then the store is only read
+module _ (P : Outside → Type 0) (old mid new : Log) (first : Passes old mid P) (at_start : P (now old)) (steps : Steps mid new (now mid)) where
+  pub then_read : Passes old new P
+  then_read = Passes-then old mid new P first (Passes-weaker mid new _ P (λ o e. subst P (sym e) (Passes-now old mid P first at_start)) steps.passes)
+
+pub opening_alone_then : (old mid new : Log) → AreApart (now old) → Runs VolumeSide (λ _. Unit {0}) old mid → Steps mid new (now mid) → Passes old new (IsOpening (now old))
+opening_alone_then old mid new apart runs steps =
+    then_read (IsOpening (now old)) old mid new (opening_alone old mid apart runs) (record { framed = framed_same (now old); said = refl; store_same = refl }) steps
+
+pub begun_then : (v : Option StoredVolume) (old mid new : Log) → IsSynced (now old) → SideReads (as_read (disk VolumeSide (now old))) v
+    → Runs VolumeSide (LeavesEither v (option_map reopened v)) old mid → Steps mid new (now mid) → Passes old new (LeavesBegun v)
+begun_then v old mid new synced reads runs steps =
+    then_read (LeavesBegun v) old mid new (begun_moments v old mid synced.apart runs)
+    (λ image left. inl (stable_leaves (disk VolumeSide (now old)) v synced.volume_stable reads image left)) steps
+
+-- a volume that stands was not unformatted
+pub stands_formatted : OneSide → StandsLeaves → (m : VolumeSeen) (n : ℕ) (old mid : Log) → (disk VolumeSide (now old)).count ≤ 262144 → Steps old mid (now old) → IsKept m → IsReady m n
+    → StandsOn m (disk VolumeSide (now old)) → SideReads (as_read (disk VolumeSide (now old))) None → ⊥
+stands_formatted one_side stands_leaves m n old mid small steps sound ready stands reads =
+    none_some (stored_on m (disk VolumeSide (now mid)).bytes) (sym (opened_as one_side stands_leaves m n old mid None small steps sound ready stands reads))

@@ -15,6 +15,8 @@ use Rattle.tm_world.specs.declared.world.Side.{Side}
 use Rattle.tm_world.specs.declared.world.Side.TheVariants.{Volume as VolumeSide}
 use Rattle.tm_world.proofs.Going.{Passes-none}
 use Rattle.tm_text.specs.declared.line.Line.{Line}
+use Rattle.tm_text.specs.declared.line.Line.TheVariants.{StartBackupBlock}
+use Rattle.tm_machine.specs.Allowed.{Did, MayBackUp, MayDoOther}
 use Rattle.tm_machine.specs.Answers.{AnswersBy, AnswersQuery, AnswersReading}
 use Rattle.tm_machine.specs.Commits.{unless_refused}
 use Rattle.tm_machine.specs.Queries.{list_rows}
@@ -150,3 +152,14 @@ DoesOther l m new start end result = Does (other_effect (state_on m (now start))
 
 pub as_line : (l of : Line) (m new : Seen) (start end : Log) (result : Result (List ReplyRow) LineFault) → l ≡ of → DoesOther of m new start end result → DoesOther l m new start end result
 as_line l of m new start end result is does = subst (λ (x : Line). DoesOther x m new start end result) (sym is) does
+
+-- a line that does what the plain machine does
+pub as_plain : (l of : Line) (m new : Seen) (start end : Log) (result : Result (List ReplyRow) LineFault) → MayDoOther (state_on m (now start)) of (other_effect (state_on m (now start)) of)
+    → l ≡ of → DoesOther of m new start end result → Did (MayDoOther (state_on m (now start)) l) m new start end result
+as_plain l of m new start end result may is does =
+    subst (λ (x : Line). Did (MayDoOther (state_on m (now start)) x) m new start end result) (sym is) (record { effect = other_effect (state_on m (now start)) of; may = may; does = does })
+
+pub as_backup : (l : Line) (m new : Seen) (start end : Log) (result : Result (List ReplyRow) LineFault) → l ≡ StartBackupBlock
+    → Did (MayBackUp (state_on m (now start))) m new start end result → Did (MayDoOther (state_on m (now start)) l) m new start end result
+as_backup l m new start end result is did =
+    subst (λ (x : Line). Did (MayDoOther (state_on m (now start)) x) m new start end result) (sym is) (record { effect = did.effect; may = did.may; does = did.does })

@@ -1,6 +1,8 @@
 -- A session between lines, and the moments of a line that commits on one side.
-use Rattle.std.proofs.Common.{◌≡◌, ◌⊎◌, ℕ, ◌≤◌, Option, Some, None, IfSome, Result, Ok, Err, List, ◌∷◌, refl, sym, ◌∙◌, ap, subst, arith}
+use Rattle.std.proofs.Common.{◌≡◌, ◌⊎◌, ℕ, ◌≤◌, false, Option, Some, None, IfSome, Result, Ok, Err, List, ◌∷◌, refl, sym, ◌∙◌, ap, subst, arith}
 use Rattle.std.specs.Option.{option_map}
+use Rattle.std.proofs.lemmas.List.Elements.{All-head}
+use Rattle.std.proofs.lemmas.Option.{none-some}
 use Rattle.tm_base.specs.declared.refused.LineFault.{LineFault}
 use Rattle.tm_base.specs.declared.refused.LineFault.TheVariants.{Refused as RefusedFor, Fault, Memory}
 use Rattle.tm_store.specs.Sides.{SideReads as StoreSideReads, LeavesSide as LeavesStoreSide, BlankLeaves as StoreBlankLeaves}
@@ -12,15 +14,17 @@ use Rattle.tm_volume.specs.Seen.{Seen as VolumeSeen, IsKept, IsReady, StandsOn, 
 use Rattle.tm_volume.specs.Stored.{StoredVolume}
 use Rattle.tm_world.specs.Disk.{Disk, Image, IsLeft}
 use Rattle.tm_world.specs.Log.{Log, now, Passes, Steps}
-use Rattle.tm_world.specs.Outside.{Outside, disk, AreApart}
-use Rattle.tm_world.specs.Runs.{Runs}
+use Rattle.tm_world.specs.Outside.{Outside, Place, is_place, place, disk, AreApart}
+use Rattle.tm_world.specs.Runs.{Beside, Runs}
+use Rattle.tm_world.specs.Alone.{KeepsRest}
+use Rattle.tm_world.proofs.Keeping.{rest_stays}
 use Rattle.tm_world.specs.declared.world.Side.{Side}
 use Rattle.tm_world.specs.declared.world.Side.TheVariants.{Volume as VolumeSide, Store as StoreSide}
 use Rattle.tm_world.proofs.Going.{Passes-weaker}
 use Rattle.tm_world.proofs.Pairs.{Runs-beside}
 use Rattle.tm_machine.specs.Session.{Seen, state_on, VolumeStands, StoreStands, Standing, IsIdle, IsOpen, Alike, unlooked, IfReplied}
 use Rattle.tm_machine.specs.States.{State, Stored, kept}
-use Rattle.tm_machine.specs.Stops.{IsAmong, LeavesCommits, LeavesPair}
+use Rattle.tm_machine.specs.Stops.{HaveNoStore, HaveNoVolume, IsAmong, IsFramed, LeavesCommits, LeavesPair}
 
 -- ---- the same but for looks
 
@@ -161,32 +165,65 @@ rest_leaves laws m blocks o is_open standing v z v_left z_left = record {
   store_reads = store_rests laws m blocks o is_open standing z z_left;
 }
 
-pub rest_moment : (first : Stored) (made : List Stored) (o : Outside) → AreApart o → LeavesPair first o → LeavesCommits first made o.said o
+-- nothing but a side changes
+pub framed_same : (o : Outside) → IsFramed o o
+framed_same o = record { places = λ side. refl; elsewhere = λ at v z. refl }
+
+elsewhere_by : (side : Side) (start o : Outside) → KeepsRest side start o → (at : Place) → is_place (place VolumeSide start) at ≡ false → is_place (place StoreSide start) at ≡ false → o.stands at ≡ start.stands at
+elsewhere_by VolumeSide start o keeps at v z = keeps.elsewhere at v
+elsewhere_by StoreSide start o keeps at v z = keeps.elsewhere at z
+
+-- a moment of a run on one side, with all else as it was
+pub record FramedBeside (side : Side) (P : Disk → Type 0) (start o : Outside) : Type 0 where
+  pub beside : Beside side P start o
+  pub framed : IsFramed start o
+
+pub runs_framed : (side : Side) (P : Disk → Type 0) (start end : Log) → AreApart (now start) → Runs side P start end → Passes start end (FramedBeside side P (now start))
+runs_framed side P start end apart runs =
+    let one = Runs-beside side P start end apart runs in
+    let rest = rest_stays P side start end runs in
+    record {
+      later = one.later;
+      kept = one.kept;
+      each = λ k lt le. record { beside = one.each k lt le; framed = record { places = (rest.each k lt le).places; elsewhere = elsewhere_by side (now start) (end.past k) (rest.each k lt le) } };
+    }
+
+pub rest_moment : (first : Stored) (made : List Stored) (o : Outside) → AreApart o → LeavesPair first o → LeavesCommits first made o o
 rest_moment first made o apart leaves = record {
   apart = apart;
+  framed = framed_same o;
   said = refl;
+  blank = record { volume = λ none few. refl; store = λ none few. refl };
   among = λ v z v_left z_left. record { made = 0; few = omega arith; reads = leaves v z v_left z_left };
 }
 
 pub reading_moments : (first : Stored) (made : List Stored) (start end : Log) → AreApart (now start) → LeavesPair first (now start) → Steps start end (now start)
-    → Passes start end (LeavesCommits first made (now start).said)
+    → Passes start end (LeavesCommits first made (now start))
 reading_moments first made start end apart leaves steps =
-    Passes-weaker start end _ _ (λ o e. subst (LeavesCommits first made (now start).said) (sym e) (rest_moment first made (now start) apart leaves)) steps.passes
+    Passes-weaker start end _ _ (λ o e. subst (LeavesCommits first made (now start)) (sym e) (rest_moment first made (now start) apart leaves)) steps.passes
 
 -- ---- commits on one side
 
 pub volume_moments : (old new : Option StoredVolume) (z : Option StoredStore) (made : List Stored) (start end : Log) → AreApart (now start)
     → LeavesStoreSide z (disk StoreSide (now start))
-    → ((v w : Image) → SideReads v old ⊎ SideReads v new → StoreSideReads w z → IsAmong (pair old z) made v w) → Runs VolumeSide (LeavesEither old new) start end
-    → Passes start end (LeavesCommits (pair old z) made (now start).said)
-volume_moments old new z made start end apart rests among runs =
-    Passes-weaker start end _ _
-    (λ o beside. record {
-      apart = beside.apart;
-      said = beside.said;
-      among = λ v w v_left w_left. among v w (beside.here v v_left) (rests w (subst (λ (d : Disk). IsLeft d w) beside.there w_left));
-    })
-    (Runs-beside VolumeSide (LeavesEither old new) start end apart runs)
+    → ((v w : Image) → SideReads v old ⊎ SideReads v new → StoreSideReads w z → IsAmong (pair old z) made v w) → (old ≡ None → HaveNoVolume made → Steps start end (now start))
+    → Runs VolumeSide (LeavesEither old new) start end → Passes start end (LeavesCommits (pair old z) made (now start))
+volume_moments old new z made start end apart rests among reads runs =
+    let moments = runs_framed VolumeSide (LeavesEither old new) start end apart runs in
+    record {
+      later = moments.later;
+      kept = moments.kept;
+      each = λ k lt le.
+          let at = moments.each k lt le in
+          let beside = at.beside in
+          record {
+            apart = beside.apart;
+            framed = at.framed;
+            said = beside.said;
+            blank = record { volume = λ none few. ap (disk VolumeSide) ((reads none few).passes.each k lt le); store = λ none few. beside.there };
+            among = λ v w v_left w_left. among v w (beside.here v v_left) (rests w (subst (λ (d : Disk). IsLeft d w) beside.there w_left));
+          };
+    }
 
 -- a disk of which a stop leaves the one or the other
 abbrev pub LeavesEitherStore : Option StoredStore → Option StoredStore → Disk → Type 0
@@ -194,16 +231,31 @@ LeavesEitherStore old new disk = (image : Image) → IsLeft disk image → Store
 
 pub store_moments : (old new : Option StoredStore) (v : Option StoredVolume) (made : List Stored) (start end : Log) → AreApart (now start)
     → LeavesSide v (disk VolumeSide (now start))
-    → ((u w : Image) → SideReads u v → StoreSideReads w old ⊎ StoreSideReads w new → IsAmong (pair v old) made u w) → Runs StoreSide (LeavesEitherStore old new) start end
-    → Passes start end (LeavesCommits (pair v old) made (now start).said)
-store_moments old new v made start end apart rests among runs =
-    Passes-weaker start end _ _
-    (λ o beside. record {
-      apart = beside.apart;
-      said = beside.said;
-      among = λ u w u_left w_left. among u w (rests u (subst (λ (d : Disk). IsLeft d u) beside.there u_left)) (beside.here w w_left);
-    })
-    (Runs-beside StoreSide (LeavesEitherStore old new) start end apart runs)
+    → ((u w : Image) → SideReads u v → StoreSideReads w old ⊎ StoreSideReads w new → IsAmong (pair v old) made u w) → (old ≡ None → HaveNoStore made → Steps start end (now start))
+    → Runs StoreSide (LeavesEitherStore old new) start end → Passes start end (LeavesCommits (pair v old) made (now start))
+store_moments old new v made start end apart rests among reads runs =
+    let moments = runs_framed StoreSide (LeavesEitherStore old new) start end apart runs in
+    record {
+      later = moments.later;
+      kept = moments.kept;
+      each = λ k lt le.
+          let at = moments.each k lt le in
+          let beside = at.beside in
+          record {
+            apart = beside.apart;
+            framed = at.framed;
+            said = beside.said;
+            blank = record { volume = λ none few. beside.there; store = λ none few. ap (disk StoreSide) ((reads none few).passes.each k lt le) };
+            among = λ u w u_left w_left. among u w (rests u (subst (λ (d : Disk). IsLeft d u) beside.there u_left)) (beside.here w w_left);
+          };
+    }
+
+-- a list of commits that has one with a volume, or with a store
+pub some_volume : {P : Type 0} (s : StoredVolume) (z : Option StoredStore) (more : List Stored) → HaveNoVolume (pair (Some s) z ∷ more) → P
+some_volume s z more none = absurd (none-some s (sym (All-head (λ x. x.volume ≡ None) (pair (Some s) z) more none)))
+
+pub some_store : {P : Type 0} (v : Option StoredVolume) (s : StoredStore) (more : List Stored) → HaveNoStore (pair v (Some s) ∷ more) → P
+some_store v s more none = absurd (none-some s (sym (All-head (λ x. x.store ≡ None) (pair v (Some s)) more none)))
 
 pub none_made : (v : Option StoredVolume) (z : Option StoredStore) (made : List Stored) (u w : Image) → SideReads u v → StoreSideReads w z → IsAmong (pair v z) made u w
 none_made v z made u w reads store_reads = record { made = 0; few = omega arith; reads = record { volume_reads = reads; store_reads = store_reads } }

@@ -1,6 +1,7 @@
 -- Lines that commit on the store's side.
 use Rattle.std.proofs.Common.{◌≡◌, ◌⊎◌, ⊎_elim, ℕ, ◌<◌, ◌≤◌, Bool, true, false, Option, Some, None, is_some, nat_lt, Result, Ok, Err, List, [], ◌∷◌, ◌++◌, length, take, refl, sym, ◌∙◌, ap, subst, arith, cond, zero, suc}
 use Rattle.std.proofs.lemmas.Bool.Decides.{nat_tests}
+use Rattle.std.proofs.lemmas.Option.{none-some}
 use Rattle.tm_base.specs.declared.refused.LineFault.{LineFault}
 use Rattle.tm_base.specs.declared.refused.LineFault.TheVariants.{Refused as RefusedFor, Fault, Memory}
 use Rattle.tm_base.specs.declared.refused.Refused.{Refused}
@@ -8,7 +9,7 @@ use Rattle.tm_base.specs.declared.refused.Refused.TheVariants.{Already, Small}
 use Rattle.tm_reply.specs.declared.row.ReplyRow.{ReplyRow}
 use Rattle.tm_text.specs.declared.line.Line.TheVariants as line
 use Rattle.tm_tree.specs.Refusing.{Tests, first_refused}
-use Rattle.tm_tree.specs.States.{new_store, backed_up}
+use Rattle.tm_tree.specs.States.{StoreState, new_store}
 use Rattle.tm_store.specs.Answers.{IfRefused, IsSmall}
 use Rattle.tm_store.specs.Sides.{SideReads as StoreSideReads}
 use Rattle.tm_store_records.specs.Held.{Held, stored_on as store_stored_on}
@@ -24,15 +25,15 @@ use Rattle.tm_world.specs.Runs.{Runs}
 use Rattle.tm_world.specs.declared.world.Side.{Side}
 use Rattle.tm_world.specs.declared.world.Side.TheVariants.{Volume as VolumeSide, Store as StoreSide}
 use Rattle.tm_world.proofs.Going.{Passes-weaker}
-use Rattle.tm_world.proofs.Pairs.{Runs-beside, Runs-ends}
+use Rattle.tm_world.proofs.Pairs.{Runs-ends}
 use Rattle.tm_machine.specs.Backups.{unless, walk_refusal, ends_as, dated, IsOneOf, LeavesOneOf, AnswersBackup}
 use Rattle.tm_machine.specs.Commits as commits
 use Rattle.tm_machine.specs.Commits.{last_from, unless_refused}
-use Rattle.tm_machine.specs.Session.{Seen, state_on, VolumeStands, Standing, IsIdle, IsOpen, effect, other_effect, Replies, Does}
+use Rattle.tm_machine.specs.Session.{Seen, state_on, VolumeStands, Standing, IsIdle, IsOpen, Effect, effect, Replies, Does}
 use Rattle.tm_machine.specs.States.{State, Stored, kept}
-use Rattle.tm_machine.specs.Steps.{at_rest, ended, new_store_tests, least_blocks, start_tests, walks_tests, whole_tests}
-use Rattle.tm_machine.specs.Stops.{PairReads, IsAmong, LeavesCommits}
-use Rattle.tm_machine.proofs.Resting.{stored_in, seen, state, pair, LeavesEitherStore, store_moments, none_made, one_made}
+use Rattle.tm_machine.specs.Steps.{at_rest, ended, new_store_tests, least_blocks, other_left, rows, start_tests, walk_by}
+use Rattle.tm_machine.specs.Stops.{HaveNoStore, PairReads, IsAmong, LeavesCommits}
+use Rattle.tm_machine.proofs.Resting.{runs_framed, stored_in, seen, state, pair, LeavesEitherStore, store_moments, none_made, one_made, some_store}
 use Rattle.tm_machine.proofs.VolumeLines.{failed_replies, failed_replied, is_none_of}
 
 -- ---- after a run on the store's side
@@ -87,9 +88,11 @@ module _ (m : Seen) (n k : ℕ) (v : Option VolumeSeen) (w : Option Held) (momen
   rests_at : LeavesSide held (disk VolumeSide (now start))
   rests_at = subst (λ (x : Seen). LeavesSide (state_on x (now start)).volume (disk VolumeSide (now start))) (sym is) rests
 
-  moments_at : Passes start end (LeavesCommits (pair held None) (unless_refused (first_refused (tests_at k)) [] (pair held (Some (at_rest (new_store machine))) ∷ [])) (now start).said)
+  moments_at : Passes start end (LeavesCommits (pair held None) (unless_refused (first_refused (tests_at k)) [] (pair held (Some (at_rest (new_store machine))) ∷ [])) (now start))
   moments_at = store_moments None (Some (at_rest (new_store machine))) held _ start end standing.apart rests_at
-      (λ u w a b. format_among (first_refused (tests_at k)) (at_rest (new_store machine)) held u w (tests_pass k large) a b) runs
+      (λ u w a b. format_among (first_refused (tests_at k)) (at_rest (new_store machine)) held u w (tests_pass k large) a b)
+      (λ none few. some_store held (at_rest (new_store machine)) []
+      (subst (λ (why : Option Refused). HaveNoStore (unless_refused why [] (pair held (Some (at_rest (new_store machine))) ∷ []))) (tests_pass k large) few)) runs
 
   pub format_does : (new : Held) → Stands new.image (disk StoreSide (now end)) → store_stored_on new (disk StoreSide (now end)).bytes ≡ at_rest (new_store machine)
       → DoesAt m (seen n k v (Some new) moment) (Ok [])
@@ -161,40 +164,54 @@ one_of_among v first later u w reads one = record {
 }
 
 run_moments : (first : StoredStore) (later : List StoredStore) (v : Option StoredVolume) (start end : Log) → AreApart (now start) → LeavesSide v (disk VolumeSide (now start))
-    → Runs StoreSide (LeavesOneOf first later) start end → Passes start end (LeavesCommits (pair v (Some first)) (pairs v later) (now start).said)
+    → Runs StoreSide (LeavesOneOf first later) start end → Passes start end (LeavesCommits (pair v (Some first)) (pairs v later) (now start))
 run_moments first later v start end apart rests runs =
     Passes-weaker start end _ _
-    (λ o beside. record {
+    (λ o at. let beside = at.beside in
+    record {
       apart = beside.apart;
+      framed = at.framed;
       said = beside.said;
+      blank = record { volume = λ none few. beside.there; store = λ none few. absurd (none-some first (sym none)) };
       among = λ u w u_left w_left. one_of_among v first later u w (rests u (subst (λ (d : Disk). IsLeft d u) beside.there u_left)) (beside.here w w_left);
     })
-    (Runs-beside StoreSide (LeavesOneOf first later) start end apart runs)
+    (runs_framed StoreSide (LeavesOneOf first later) start end apart runs)
 
--- a session in which a backup of this date has passed the tests that come first
-module _ (n k : ℕ) (v : StoredVolume) (z : StoredStore) (date : ℕ) where
+-- a session in which a backup of this date has passed the tests that come first, and which would make `finished` of the store
+module _ (n k : ℕ) (v : StoredVolume) (z : StoredStore) (date : ℕ) (finished : StoreState) where
   abbrev at_start : State
   at_start = state n k (Some v) (Some z) (Some date)
 
   abbrev walks : Option Refused
-  walks = walk_refusal k z.store v.volume date
+  walks = walk_refusal finished k z.store v.volume
 
-  refusal_is : first_refused (start_tests at_start) ≡ None → first_refused (whole_tests at_start) ≡ walks
-  refusal_is none = first_none (start_tests at_start) (walks_tests k (Some v) (Some z.store) (Some date)) none
+  abbrev at_end : State
+  at_end = state n k (Some v) (Some (at_rest finished)) (Some date)
 
-  commits_are : first_refused (start_tests at_start) ≡ None → (w : Option Refused) → first_refused (whole_tests at_start) ≡ w
-      → unless_refused (first_refused (whole_tests at_start)) (other_effect at_start line.StartBackupBlock).undone (other_effect at_start line.StartBackupBlock).commits
-      ≡ pairs (Some v) (dated z.store date ∷ unless w (at_rest z.store) (at_rest (backed_up z.store v.volume date)) ∷ [])
-  commits_are none None e = ap (λ (x : Option Refused). unless_refused x (other_effect at_start line.StartBackupBlock).undone (other_effect at_start line.StartBackupBlock).commits) e
+  -- what it is to do then
+  abbrev pub effect_by : Effect
+  effect_by = record {
+    tested = start_tests at_start ++ walk_by finished k z.store v.volume;
+    rows = rows at_start line.StartBackupBlock;
+    after = at_end;
+    commits = commits.started at_start ∷ kept at_end ∷ [];
+    left = other_left at_start line.StartBackupBlock;
+    undone = commits.other_undone at_start line.StartBackupBlock;
+  }
+
+  refusal_is : first_refused (start_tests at_start) ≡ None → first_refused effect_by.tested ≡ walks
+  refusal_is none = first_none (start_tests at_start) (walk_by finished k z.store v.volume) none
+
+  commits_are : first_refused (start_tests at_start) ≡ None → (w : Option Refused) → first_refused effect_by.tested ≡ w
+      → unless_refused (first_refused effect_by.tested) effect_by.undone effect_by.commits
+      ≡ pairs (Some v) (dated z.store date ∷ unless w (at_rest z.store) (at_rest finished) ∷ [])
+  commits_are none None e = ap (λ (x : Option Refused). unless_refused x effect_by.undone effect_by.commits) e
   commits_are none (Some why) e =
-      ap (λ (x : Option Refused). unless_refused x (other_effect at_start line.StartBackupBlock).undone (other_effect at_start line.StartBackupBlock).commits) e
+      ap (λ (x : Option Refused). unless_refused x effect_by.undone effect_by.commits) e
       ∙ ap (λ (x : Option Refused). commits.ending x at_start) none
 
-  abbrev DoesBackup : State → State → Result (List ReplyRow) LineFault → Type 0
-  DoesBackup s new result = Replies (other_effect s line.StartBackupBlock) new result
-
-  pub backup_replies : first_refused (start_tests at_start) ≡ None → (new : StoredStore) (result : Result (List ReplyRow) LineFault) → AnswersBackup k z.store v date new result
-      → DoesBackup at_start (state n k (Some v) (Some new) (Some date)) result
+  pub backup_replies : first_refused (start_tests at_start) ≡ None → (new : StoredStore) (result : Result (List ReplyRow) LineFault) → AnswersBackup finished k z.store v date new result
+      → Replies effect_by (state n k (Some v) (Some new) (Some date)) result
   backup_replies none new (Ok found) h = (refusal_is none ∙ h.0, h.1, ap (λ (x : StoredStore). state n k (Some v) (Some x) (Some date)) h.2)
   backup_replies none new (Err (RefusedFor why)) h =
       (refusal_is none ∙ h.0, ap (λ (x : StoredStore). state n k (Some v) (Some x) (Some date)) h.1 ∙ sym (ap (λ (x : Option Refused). ended x at_start) none))
@@ -202,9 +219,8 @@ module _ (n k : ℕ) (v : StoredVolume) (z : StoredStore) (date : ℕ) where
   backup_replies none new (Err Memory) h = tt
 
   pub backup_moments : first_refused (start_tests at_start) ≡ None → (start end : Log) → AreApart (now start) → LeavesSide (Some v) (disk VolumeSide (now start))
-      → Runs StoreSide (LeavesOneOf z (dated z.store date ∷ ends_as k z.store v.volume date ∷ [])) start end
-      → Passes start end (LeavesCommits (kept at_start)
-      (unless_refused (first_refused (whole_tests at_start)) (other_effect at_start line.StartBackupBlock).undone (other_effect at_start line.StartBackupBlock).commits) (now start).said)
+      → Runs StoreSide (LeavesOneOf z (dated z.store date ∷ ends_as finished k z.store v.volume ∷ [])) start end
+      → Passes start end (LeavesCommits (kept at_start) (unless_refused (first_refused effect_by.tested) effect_by.undone effect_by.commits) (now start))
   backup_moments none start end apart rests runs =
-      subst (λ (cs : List Stored). Passes start end (LeavesCommits (kept at_start) cs (now start).said)) (sym (commits_are none walks (refusal_is none)))
-      (run_moments z (dated z.store date ∷ ends_as k z.store v.volume date ∷ []) (Some v) start end apart rests runs)
+      subst (λ (cs : List Stored). Passes start end (LeavesCommits (kept at_start) cs (now start))) (sym (commits_are none walks (refusal_is none)))
+      (run_moments z (dated z.store date ∷ ends_as finished k z.store v.volume ∷ []) (Some v) start end apart rests runs)

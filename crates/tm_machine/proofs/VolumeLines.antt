@@ -1,6 +1,7 @@
 -- Lines that commit on the volume's side.
 use Rattle.std.proofs.Common.{◌≡◌, ◌≢◌, ◌⊎◌, ⊎_elim, ℕ, ◌≤◌, false, Option, Some, None, is_some, unwrap_or, nat_lt, Result, Ok, Err, List, [], ◌∷◌, ◌++◌, refl, sym, ◌∙◌, ap, subst, arith}
 use Rattle.std.proofs.lemmas.Bool.Decides.{nat_tests}
+use Rattle.std.proofs.lemmas.Option.{none-some}
 use Rattle.tm_base.specs.declared.refused.LineFault.{LineFault}
 use Rattle.tm_base.specs.declared.refused.LineFault.TheVariants.{Refused as RefusedFor, Fault, Memory}
 use Rattle.tm_base.specs.declared.refused.Refused.{Refused}
@@ -20,7 +21,7 @@ use Rattle.tm_volume.specs.Reads.{SideReads, LeavesEither}
 use Rattle.tm_volume.specs.Seen.{Seen as VolumeSeen, IsKept, IsReady, StandsOn, stored_on}
 use Rattle.tm_volume.specs.Stored.{StoredVolume, new_stored}
 use Rattle.tm_world.specs.Disk.{Disk, Image}
-use Rattle.tm_world.specs.Log.{Log, now}
+use Rattle.tm_world.specs.Log.{Log, now, Passes}
 use Rattle.tm_world.specs.Outside.{disk, AreApart}
 use Rattle.tm_world.specs.Runs.{Runs}
 use Rattle.tm_world.specs.declared.world.Side.{Side}
@@ -30,8 +31,8 @@ use Rattle.tm_machine.specs.Commits.{unless_refused}
 use Rattle.tm_machine.specs.Session.{Seen, state_on, StoreStands, Standing, IsOpen, IfReplied, Effect, effect, Replies, Does}
 use Rattle.tm_machine.specs.States.{State, Stored, kept, store_in}
 use Rattle.tm_machine.specs.Steps.{changed, change_tests, new_volume_tests, least_blocks, is_taken}
-use Rattle.tm_machine.specs.Stops.{IsAmong}
-use Rattle.tm_machine.proofs.Resting.{held_in, seen, state, pair, volume_moments, none_made, one_made}
+use Rattle.tm_machine.specs.Stops.{HaveNoVolume, IsAmong, LeavesCommits}
+use Rattle.tm_machine.proofs.Resting.{held_in, seen, state, pair, volume_moments, none_made, one_made, some_volume}
 
 -- ---- after a run on the volume's side
 
@@ -103,7 +104,7 @@ change_does_at n k v new h moment c start end result apart store_stands rests me
       standing = change_replied result (Standing (seen n k (Some new) h moment) (now end))
           (λ no_fault. volume_standing _ start end apart runs n k new h moment (stands no_fault) store_stands);
       moments = volume_moments (Some old) (Some (volume.after_change n old c moment)) z (unless_refused (first_refused tested) [] made) start end apart rests
-          (change_among (first_refused tested) old (volume.changed old c moment) z) runs;
+          (change_among (first_refused tested) old (volume.changed old c moment) z) (λ none few. absurd (none-some old (sym none))) runs;
     }
 
 module _ (m : Seen) (n k count : ℕ) (w : Option VolumeSeen) (v new : VolumeSeen) (h : Option Held) (moment : Option ℕ) (c : Change) (start end : Log) (result : Result (List Touch) LineFault)
@@ -203,13 +204,19 @@ module _ (m : Seen) (n k : ℕ) (w : Option VolumeSeen) (h : Option Held) (momen
   rests_at : LeavesStoreSide z (disk StoreSide (now start))
   rests_at = subst (λ (x : Seen). LeavesStoreSide (state_on x (now start)).store (disk StoreSide (now start))) (sym is) rests
 
+  moments_at : Passes start end (LeavesCommits (pair None z) (unless_refused (first_refused (tests_at n (store_in z) (Some d) id)) [] (pair (Some (new_stored name id events d)) z ∷ [])) (now start))
+  moments_at = volume_moments None (Some (new_stored name id events d)) z _ start end standing.apart rests_at
+      (λ u v a b. format_among (first_refused (tests_at n (store_in z) (Some d) id)) (new_stored name id events d) z u v pass a b)
+      (λ none few. some_volume (new_stored name id events d) z []
+      (subst (λ (why : Option Refused). HaveNoVolume (unless_refused why [] (pair (Some (new_stored name id events d)) z ∷ []))) pass few)) runs
+
   pub format_does : (new : VolumeSeen) → StandsOn new (disk VolumeSide (now end)) → stored_on new (disk VolumeSide (now end)).bytes ≡ new_stored name id events d
       → DoesAt m (seen n k (Some new) h moment) (Ok [])
   format_does new stands stored =
       let core : DoesAt (seen n k None h (Some d)) (seen n k (Some new) h (Some d)) (Ok []) = record {
         replies = (pass, refl, λ i. record { volume_blocks = n; store_blocks = k; volume = Some (stored i); store = held_there _ start end standing.apart runs h i; moment = Some d });
         standing = volume_standing _ start end standing.apart runs n k new h (Some d) stands (subst (λ (x : Seen). StoreStands x.store (disk StoreSide (now start))) (sym is) standing.store_side);
-        moments = volume_moments None (Some (new_stored name id events d)) z _ start end standing.apart rests_at (λ u v a b. format_among _ (new_stored name id events d) z u v pass a b) runs;
+        moments = moments_at;
       } in
       subst (λ (x : Seen). DoesAt x (seen n k (Some new) h moment) (Ok [])) was_at
       (subst (λ (mo : Option ℕ). DoesAt (seen n k None h (Some d)) (seen n k (Some new) h mo) (Ok [])) (sym dated) core)
@@ -219,7 +226,7 @@ module _ (m : Seen) (n k : ℕ) (w : Option VolumeSeen) (h : Option Held) (momen
       let core : DoesAt (seen n k None h (Some d)) new (Err why) = record {
         replies = failed_replies (tests_at n (store_in z) (Some d) id) (state n k (Some (made (Some d))) z (Some d)) (state_on new (now end)) (state n k None z (Some d)) (pair (Some (made (Some d))) z ∷ []) why failed;
         standing = failed_replied why (Standing new (now end)) failed;
-        moments = volume_moments None (Some (new_stored name id events d)) z _ start end standing.apart rests_at (λ u v a b. format_among _ (new_stored name id events d) z u v pass a b) runs;
+        moments = moments_at;
       } in
       subst (λ (x : Seen). DoesAt x new (Err why)) was_at core
 

@@ -1,7 +1,6 @@
 -- The commits: each state that the images pass, from opening on.
-use Rattle.std.specs.Prelude.{◌≡◌, ℕ, ◌<◌, if◌then◌else◌, Option, Some, None, List, [], ◌∷◌, ◌++◌, length}
+use Rattle.std.specs.Prelude.{◌≡◌, ℕ, if◌then◌else◌, Option, Some, None, List, [], ◌∷◌, ◌++◌}
 use Rattle.tm_base.specs.declared.refused.Refused.{Refused}
-use Rattle.tm_reply.specs.Replies.{reply_text}
 use Rattle.tm_text.specs.declared.line.Line.{Line}
 use Rattle.tm_text.specs.declared.line.Line.TheVariants as line
 use Rattle.std.specs.Option.{option_map}
@@ -10,9 +9,8 @@ use Rattle.tm_tree.specs.Refusing.{first_refused}
 use Rattle.tm_tree.specs.declared.change.Change.{Change}
 use Rattle.tm_volume.specs.Stored.{StoredVolume, reopened}
 use Rattle.tm_machine.specs.Changing.{change_of}
-use Rattle.tm_machine.specs.Runs.{state_after}
 use Rattle.tm_machine.specs.States.{State, Stored, kept, opened}
-use Rattle.tm_machine.specs.Steps.{begun, changed, ended, other_after, refusal, reply, start_tests, step}
+use Rattle.tm_machine.specs.Steps.{begun, changed, ended, other_after, refusal, start_tests, step}
 
 -- the last of a list, or what was there before it
 abbrev pub last_from : {A : Type 0} → A → List A → A
@@ -79,17 +77,6 @@ commits s (l ∷ lines) = commits_of s l ++ commits (step s l) lines
 
 -- ---- laws
 
--- the last commit of a line is what is kept of the state after it
-abbrev pub LastOfLine : Type 0
-LastOfLine = (s : State) (l : Line) → last_from (kept s) (commits_of s l) ≡ kept (step s l)
-
-abbrev pub LastOfLines : Type 0
-LastOfLines = (s : State) (lines : List Line) → last_from (kept s) (commits s lines) ≡ kept (state_after s lines)
-
--- and that of opening is what is kept of the opened state
+-- the last commit of opening is what is kept of the opened state
 abbrev pub LastOfOpening : Type 0
 LastOfOpening = (volume_blocks store_blocks : ℕ) (r : Stored) → last_from r (opening r) ≡ kept (opened volume_blocks store_blocks r)
-
--- each line has a reply
-abbrev pub RepliesAreSome : Type 0
-RepliesAreSome = (s : State) (l : Line) → 0 < length (reply_text (reply s l))

@@ -9,3 +9,5 @@ pub mod Commits
 pub mod Fitting
 pub mod Stops
 pub mod Session
+pub mod Allowed
+pub mod Histories

@@ -153,4 +153,4 @@ Replies d new (Err Memory) = Unit {0}
 pub record Does (d : Effect) (m new : Seen) (start end : Log) (result : Result (List ReplyRow) LineFault) : Type 0 where
   pub replies : Replies d (state_on new (now end)) result
   pub standing : IfReplied result (Standing new (now end))
-  pub moments : Passes start end (LeavesCommits (kept (state_on m (now start))) (unless_refused (first_refused d.tested) d.undone d.commits) (now start).said)
+  pub moments : Passes start end (LeavesCommits (kept (state_on m (now start))) (unless_refused (first_refused d.tested) d.undone d.commits) (now start))

@@ -107,12 +107,16 @@ finish_tests blocks store new staged =
     (nat_lt free need, Full need free) ∷ []
 
 -- what only the walk finds out: a file that doesn't fit, then too many nodes, then a snapshot that doesn't fit
-abbrev pub walk_tests : ℕ → StoreState → VolumeState → ℕ → Tests
-walk_tests blocks store v date =
-    let staged = staging (base store v.id) (view v.contents.fixed v.contents.tree) in let new = backed_up store v date in
+-- where the store will be `new`
+abbrev pub walk_by : StoreState → ℕ → StoreState → VolumeState → Tests
+walk_by new blocks store v =
+    let staged = staging (base store v.id) (view v.contents.fixed v.contents.tree) in
     staging_tests (table_blocks store) (free_blocks blocks store) staged
     ++ too_many most_nodes (node_count new)
     ++ finish_tests blocks store new (sum staged)
+
+abbrev pub walk_tests : ℕ → StoreState → VolumeState → ℕ → Tests
+walk_tests blocks store v date = walk_by (backed_up store v date) blocks store v
 
 abbrev pub walks_tests : ℕ → Option StoredVolume → Option StoreState → Option ℕ → Tests
 walks_tests blocks (Some v) (Some store) (Some date) = walk_tests blocks store v.volume date

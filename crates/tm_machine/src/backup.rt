@@ -1,21 +1,18 @@
 //! Backups.
-ghost use Rattle.std.specs.Prelude.{◌≡◌, ◌≤◌, ◌∷◌, [], ℕ, List, Some, None, Err, IfOk, OnOk, IfSome, length};
+ghost use Rattle.std.specs.Prelude.{◌≡◌, ◌≤◌, [], ℕ, List, Some, None, Err, IfOk, OnOk, IfSome, length};
 ghost use Rattle.tm_base.specs.declared.refused.Side.{Side as Named};
-ghost use Rattle.tm_fit.specs.Fit.{Fits};
 ghost use Rattle.tm_image.specs.Seen.{Stands};
 ghost use Rattle.tm_store.specs.Answers.{IfRefused};
 ghost use Rattle.tm_store_records.specs.Held.{IsWhole, MayFinish, store_on, stored_on};
-ghost use Rattle.tm_store_records.specs.States.{LeavesStore};
-ghost use Rattle.tm_text.specs.declared.line.Line.TheVariants as line;
-ghost use Rattle.tm_volume.specs.Seen.{IsKept, IsReady, StandsOn, stored_on as volume_stored_on, volume_on};
+ghost use Rattle.tm_volume.specs.Seen.{IsKept, IsReady, StandsOn, stored_on as volume_stored_on};
 ghost use Rattle.tm_world.specs.Faults.{NeverLess, Rose};
 ghost use Rattle.tm_world.specs.Log.{now};
 ghost use Rattle.tm_world.specs.Outside.{AreApart, disk};
 ghost use Rattle.tm_world.specs.Runs.{Runs};
 ghost use Rattle.tm_world.specs.declared.world.Side.TheVariants.{Volume as VolumeSide, Store as StoreSide};
-ghost use Rattle.tm_machine.specs.Backups.{AnswersBackup, AnswersCopy, ComesLater, LeavesOneOf, Starts, dated, ends_as, finishes_as};
-ghost use Rattle.tm_machine.specs.Fitting.{PairFits};
-ghost use Rattle.tm_machine.specs.Session.{Does, IfReplied, IsIdle, IsOpen, Standing, other_effect, part_of, state_on};
+ghost use Rattle.tm_machine.specs.Allowed.{Did, MayBackUp};
+ghost use Rattle.tm_machine.specs.Backups.{ComesLater, DoesBackup, DoesCopy, Starts};
+ghost use Rattle.tm_machine.specs.Session.{IfReplied, IsIdle, IsOpen, Standing, part_of, state_on};
 
 use crate::session::Session;
 use std::alloc::Global;
@@ -76,8 +73,7 @@ impl Session {
     pub(crate) fn back_up<W: World>(&mut self, world: &mut W) -> Result<ReplyRows, LineFault>
         requires open { IsOpen self.old (W.blocks world.old) }
         requires standing { W.told → Standing self.old (now (W.log world.old)) }
-        ensures does { W.told → let s = state_on self.old (now (W.log world.old)) in
-            PairFits s → Does (other_effect s line.StartBackupBlock) self.old self.new (W.log world.old) (W.log world.new) result }
+        ensures does { W.told → Did (MayBackUp (state_on self.old (now (W.log world.old)))) self.old self.new (W.log world.old) (W.log world.new) result }
         ensures standing { W.told → IfReplied result (Standing self.new (now (W.log world.new))) }
         ensures open { IfReplied result (IsOpen self.new (W.blocks world.new)) }
         ensures blocks { W.blocks world.new ≡ W.blocks world.old }
@@ -115,10 +111,8 @@ fn run_backup<W: World>(
     requires apart { W.told → AreApart (now (W.log world.old)) }
     requires volume_stands { W.told → StandsOn volume.old (disk VolumeSide (now (W.log world.old))) }
     requires stands { W.told → Stands store.old.image (disk StoreSide (now (W.log world.old))) }
-    ensures any_moment { W.told → let s = stored_on store.old (disk StoreSide (now (W.log world.old))).bytes in let v = volume_on volume.old (disk VolumeSide (now (W.log world.old))).bytes in
-        Fits (Some v) (Some s.store) → Runs StoreSide (LeavesOneOf s (dated s.store date ∷ ends_as (W.blocks world.old StoreSide) s.store v date ∷ [])) (W.log world.old) (W.log world.new) }
-    ensures answer { W.told → let s = stored_on store.old (disk StoreSide (now (W.log world.old))).bytes in let v = volume_stored_on volume.old (disk VolumeSide (now (W.log world.old))).bytes in
-        Fits (Some v.volume) (Some s.store) → AnswersBackup (W.blocks world.old StoreSide) s.store v date (stored_on store.new (disk StoreSide (now (W.log world.new))).bytes) result }
+    ensures does { W.told → let s = stored_on store.old (disk StoreSide (now (W.log world.old))).bytes in let v = volume_stored_on volume.old (disk VolumeSide (now (W.log world.old))).bytes in
+        DoesBackup (W.blocks world.old StoreSide) s v date (stored_on store.new (disk StoreSide (now (W.log world.new))).bytes) (W.log world.old) (W.log world.new) result }
     ensures alone { W.told → Runs StoreSide (λ _. Unit {0}) (W.log world.old) (W.log world.new) }
     ensures stands { W.told → IfReplied result (Stands store.new.image (disk StoreSide (now (W.log world.new)))) }
     ensures idle { IfReplied result (IsIdle store.new (W.blocks world.old StoreSide)) }
@@ -159,10 +153,8 @@ fn copy_and_finish<W: World>(
     requires apart { W.told → AreApart (now (W.log world.old)) }
     requires volume_stands { W.told → StandsOn volume.old (disk VolumeSide (now (W.log world.old))) }
     requires stands { W.told → Stands store.old.image (disk StoreSide (now (W.log world.old))) }
-    ensures any_moment { W.told → let s = store_on store.old (disk StoreSide (now (W.log world.old))).bytes in let v = volume_on volume.old (disk VolumeSide (now (W.log world.old))).bytes in
-        Fits (Some v) (Some s) → Runs StoreSide (LeavesStore (dated s date) (finishes_as (W.blocks world.old StoreSide) s v date)) (W.log world.old) (W.log world.new) }
-    ensures answer { W.told → let s = store_on store.old (disk StoreSide (now (W.log world.old))).bytes in let v = volume_stored_on volume.old (disk VolumeSide (now (W.log world.old))).bytes in
-        Fits (Some v.volume) (Some s) → AnswersCopy (W.blocks world.old StoreSide) s v date (stored_on store.new (disk StoreSide (now (W.log world.new))).bytes) result }
+    ensures does { W.told → let s = store_on store.old (disk StoreSide (now (W.log world.old))).bytes in let v = volume_stored_on volume.old (disk VolumeSide (now (W.log world.old))).bytes in
+        DoesCopy (W.blocks world.old StoreSide) s v date (stored_on store.new (disk StoreSide (now (W.log world.new))).bytes) (W.log world.old) (W.log world.new) result }
     ensures alone { W.told → Runs StoreSide (λ _. Unit {0}) (W.log world.old) (W.log world.new) }
     ensures stands { W.told → IfReplied result (Stands store.new.image (disk StoreSide (now (W.log world.new)))) }
     ensures whole { IfReplied result (IsWhole store.new) }

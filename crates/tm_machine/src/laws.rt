@@ -1,8 +1,8 @@
-//! What the definitions of commits say together.
+//! What the definitions of the plain machine say together.
 //!
 //! Each function is empty; its contract is a law.
-ghost use Rattle.tm_machine.specs.Commits.{LastOfLine, LastOfLines, LastOfOpening, RepliesAreSome};
-ghost use Rattle.tm_machine.specs.Fitting.{CommitsFit, FitLasts, FitOpens};
+ghost use Rattle.tm_machine.specs.Commits.{LastOfOpening};
+ghost use Rattle.tm_machine.specs.Histories.{EffectsEnd, EffectsReply, HeldFits, HistoryWhereFits, PlainIsHistory, PlainMayBeDone, PlainWhereFits};
 ghost use Rattle.tm_machine.specs.Session.{SessionLeaves};
 
 use tm_fit::{backups_fit, changes_fit, later_generations_fit, new_stores_fit, new_volumes_fit};
@@ -10,16 +10,18 @@ use tm_store::held_reads;
 use tm_store::laws::blank_is_left;
 use tm_volume::laws::{blank_is_left as volume_blank_is_left, standing_volume_is_left};
 
-/// The last commit is what is kept of the state after it: of a line, of lines, and of opening.
+/// The last commit is what is kept of the state after it: of opening, and of what a line does, which
+/// has a reply of one byte or more.
 pub fn commits_end()
-    ensures line { LastOfLine }
-    ensures lines { LastOfLines }
     ensures opening { LastOfOpening }
+    ensures last { EffectsEnd }
+    ensures replies { EffectsReply }
 {}
 
-/// Each line has a reply of one byte or more.
-pub fn replies_are_some()
-    ensures { RepliesAreSome }
+/// Lines may always do what the plain machine does.
+pub fn plain_is_history()
+    ensures lines { PlainMayBeDone }
+    ensures history { PlainIsHistory }
 {}
 
 /// Whatever pair of images a stop leaves between two lines reads as what is kept of the session.
@@ -32,12 +34,13 @@ pub fn session_is_left()
     blank_is_left();
 }
 
-/// A pair that fits stays so: at each line of a run, in each commit that a stop may leave, and when
-/// it is opened again.
-pub fn fit_lasts()
-    ensures lines { FitLasts }
-    ensures commits { CommitsFit }
-    ensures opening { FitOpens }
+/// Over a pair that fits, lines do what the plain machine does and nothing else; and so does a run
+/// over a pair that fits once it is opened again. Whatever the images hold at a moment of it fits
+/// once it is opened again.
+pub fn plain_where_fits()
+    ensures lines { PlainWhereFits }
+    ensures history { HistoryWhereFits }
+    ensures held { HeldFits }
 {
     changes_fit();
     backups_fit();

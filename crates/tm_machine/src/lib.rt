@@ -17,5 +17,5 @@ mod stored;
 mod volume;
 
 pub use changing::change_of;
-pub use laws::{commits_end, fit_lasts, replies_are_some, session_is_left};
+pub use laws::{commits_end, plain_is_history, plain_where_fits, session_is_left};
 pub use session::{LineEnd, Session, SessionError};

@@ -1,5 +1,5 @@
 //! Opening a volume.
-ghost use Rattle.std.specs.Prelude.{◌≡◌, ◌≤◌, ◌<◌, ◌+◌, ◌^◌, ◌==◌, IfOk, IfSome, OnOk, OnErr, Err, ℕ, Option, Some, false};
+ghost use Rattle.std.specs.Prelude.{◌≡◌, ◌≤◌, ◌<◌, ◌+◌, ◌^◌, ◌==◌, IfOk, IfSome, OnOk, OnErr, Err, ℕ, Option, Some, None, false};
 ghost use Rattle.std.specs.Option.{option_map};
 ghost use Rattle.tm_base.specs.declared.refused.Side.{Side as Named};
 ghost use Rattle.tm_volume.specs.Answers.{FailsVolume};
@@ -75,6 +75,8 @@ pub(crate) fn open_volume<W: World>(
     ensures ready { IfOk result (λ v. IfSome v (λ w. IsReady w blocks)) }
     ensures stands { W.told → IfOk result (λ v. VolumeStands v (disk VolumeSide (now (W.log world.new)))) }
     ensures alone { W.told → Runs VolumeSide (λ _. Unit {0}) (W.log world.old) (W.log world.new) }
+    ensures blank { W.told → SideReads (as_read (disk VolumeSide (now (W.log world.old)))) None → Steps (W.log world.old) (W.log world.new) (now (W.log world.old)) }
+    ensures shut { W.told → (CanOpen (as_read (disk VolumeSide (now (W.log world.old)))) → ⊥) → Steps (W.log world.old) (W.log world.new) (now (W.log world.old)) }
     ensures bad { (side : Named) (cause : Cause) (place : ℕ) → result ≡ Err (SessionError.Bad side cause place)
         → (side ≡ Named.Volume) × (3 ≤ blocks) × (W.told → FailsVolume (as_read (disk VolumeSide (now (W.log world.old)))) cause place) }
     ensures blocks { W.blocks world.new ≡ W.blocks world.old }

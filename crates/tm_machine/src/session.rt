@@ -1,20 +1,22 @@
 //! The session: loading, its lines, and the close.
-ghost use Rattle.std.specs.Prelude.{◌≡◌, ◌≤◌, [], IfOk, OnOk, Ok, Err, ℕ, Some, None};
+ghost use Rattle.std.specs.Prelude.{◌≡◌, ◌≤◌, [], IfOk, OnOk, Ok, Err, ℕ, Option, Some, None};
 ghost use Rattle.tm_base.specs.declared.refused.Side.{Side as Named};
 ghost use Rattle.tm_text.specs.Bounds.{IsValidLine};
+ghost use Rattle.tm_volume.specs.Reads.{SideReads};
+ghost use Rattle.tm_volume.specs.Stored.{StoredVolume};
 ghost use Rattle.tm_world.specs.Faults.{NeverLess, Rose};
-ghost use Rattle.tm_world.specs.Log.{now, Passes};
+ghost use Rattle.tm_world.specs.Log.{now, Passes, Steps};
 ghost use Rattle.tm_world.specs.Outside.{disk};
 ghost use Rattle.tm_world.specs.Torn.{as_read};
 ghost use Rattle.tm_world.specs.declared.cause.Cause.{Cause};
 ghost use Rattle.tm_world.specs.declared.world.Side.TheVariants.{Volume as VolumeSide, Store as StoreSide};
-ghost use Rattle.tm_machine.specs.Commits.{commits_of, opening};
-ghost use Rattle.tm_machine.specs.Fitting.{FitsFor};
-ghost use Rattle.tm_machine.specs.Session.{Does, IfReplied, IsOpen, IsSynced, Standing, line_effect, other_effect, part_of, state_on};
-ghost use Rattle.tm_machine.specs.States.{Stored, kept, opened};
+ghost use Rattle.tm_machine.specs.Commits.{opening};
+ghost use Rattle.tm_machine.specs.Allowed.{Did, DidLine, MayDo, MayDoOther, after_of, reply_of};
+ghost use Rattle.tm_machine.specs.Session.{IfReplied, IsOpen, IsSynced, Standing, part_of, state_on};
+ghost use Rattle.tm_machine.specs.States.{Stored, opened};
 ghost use Rattle.tm_machine.specs.Answers.{AnswersBy};
-ghost use Rattle.tm_machine.specs.Steps.{clock_tests, reply, step};
-ghost use Rattle.tm_machine.specs.Stops.{CanOpen, CanOpenStore, IsBadSide, LeavesCommits, ReadsNow};
+ghost use Rattle.tm_machine.specs.Steps.{clock_tests};
+ghost use Rattle.tm_machine.specs.Stops.{CanOpen, CanOpenStore, IsBadSide, IsOpening, LeavesBegun, LeavesCommits, ReadsNow};
 
 use crate::changing::change_of;
 use crate::opening::{open_store, open_volume};
@@ -81,7 +83,8 @@ impl Session {
     /// Opens a pair of images, of so many blocks, of which nothing is unsynced.
     ///
     /// The volume is opened first: one that was not closed cleanly begins a generation, in one
-    /// commit. Then the store is read. `Bad` comes where one of the images is bad.
+    /// commit. Then the store is read. `Bad` comes where one of the images is bad. A volume that is
+    /// unformatted, or that can't be opened, is only read; so is every store.
     pub fn load<W: World>(
         alloc: Global,
         world: &mut W,
@@ -96,7 +99,12 @@ impl Session {
         ensures state { W.told → (r : Stored) → ReadsNow r (now (W.log world.old))
             → IfOk result (λ s. state_on s (now (W.log world.new)) ≡ opened volume_blocks store_blocks r) }
         ensures any_moment { W.told → (r : Stored) → ReadsNow r (now (W.log world.old))
-            → Passes (W.log world.old) (W.log world.new) (LeavesCommits r (opening r) (now (W.log world.old)).said) }
+            → Passes (W.log world.old) (W.log world.new) (LeavesCommits r (opening r) (now (W.log world.old))) }
+        ensures alone { W.told → Passes (W.log world.old) (W.log world.new) (IsOpening (now (W.log world.old))) }
+        ensures begun { W.told → (v : Option StoredVolume) → SideReads (as_read (disk VolumeSide (now (W.log world.old)))) v
+            → Passes (W.log world.old) (W.log world.new) (LeavesBegun v) }
+        ensures blank { W.told → SideReads (as_read (disk VolumeSide (now (W.log world.old)))) None → Steps (W.log world.old) (W.log world.new) (now (W.log world.old)) }
+        ensures shut { W.told → (CanOpen (as_read (disk VolumeSide (now (W.log world.old)))) → ⊥) → Steps (W.log world.old) (W.log world.new) (now (W.log world.old)) }
         ensures opens { W.told → IfOk result (λ _. CanOpen (as_read (disk VolumeSide (now (W.log world.old)))) × CanOpenStore (as_read (disk StoreSide (now (W.log world.old))))) }
         ensures open { IfOk result (λ s. IsOpen s (W.blocks world.new)) }
         ensures standing { W.told → IfOk result (λ s. Standing s (now (W.log world.new))) }
@@ -131,17 +139,14 @@ impl Session {
     /// kept before the line, or after one of its commits. After `Ok` the session goes on; after a
     /// fault or want of memory it is not to be used again.
     ///
-    /// A backup compares stamps in place of bytes: what is said of it holds where the pair fits.
+    /// A backup compares stamps in place of bytes: where the pair doesn't fit, some tree is copied
+    /// in place of the volume's, and nothing else is another.
     pub fn line<W: World>(&mut self, world: &mut W, line: &Line) -> Result<Reply, LineEnd>
         requires line { IsValidLine line.now }
         requires open { IsOpen self.old (W.blocks world.old) }
         requires standing { W.told → Standing self.old (now (W.log world.old)) }
-        ensures reply { W.told → let s = state_on self.old (now (W.log world.old)) in
-            FitsFor s line.now → IfOk result (λ answer. answer ≡ reply s line.now) }
-        ensures state { W.told → let s = state_on self.old (now (W.log world.old)) in
-            FitsFor s line.now → OnOk result (state_on self.new (now (W.log world.new)) ≡ step s line.now) }
-        ensures any_moment { W.told → let s = state_on self.old (now (W.log world.old)) in FitsFor s line.now
-            → Passes (W.log world.old) (W.log world.new) (LeavesCommits (kept s) (commits_of s line.now) (now (W.log world.old)).said) }
+        ensures does { W.told → DidLine (state_on self.old (now (W.log world.old))) line.now (W.log world.old) (W.log world.new)
+            (λ d. IfOk result (λ reply. (reply ≡ reply_of d) × (state_on self.new (now (W.log world.new)) ≡ after_of d))) }
         ensures open { OnOk result (IsOpen self.new (W.blocks world.new)) }
         ensures standing { W.told → OnOk result (Standing self.new (now (W.log world.new))) }
         ensures blocks { W.blocks world.new ≡ W.blocks world.old }
@@ -176,8 +181,7 @@ impl Session {
         requires line { IsValidLine line.now }
         requires open { IsOpen self.old (W.blocks world.old) }
         requires standing { W.told → Standing self.old (now (W.log world.old)) }
-        ensures does { W.told → let s = state_on self.old (now (W.log world.old)) in
-            FitsFor s line.now → Does (line_effect s line.now) self.old self.new (W.log world.old) (W.log world.new) result }
+        ensures does { W.told → Did (MayDo (state_on self.old (now (W.log world.old))) line.now) self.old self.new (W.log world.old) (W.log world.new) result }
         ensures standing { W.told → IfReplied result (Standing self.new (now (W.log world.new))) }
         ensures open { IfReplied result (IsOpen self.new (W.blocks world.new)) }
         ensures blocks { W.blocks world.new ≡ W.blocks world.old }
@@ -195,8 +199,7 @@ impl Session {
         requires line { IsValidLine line.now }
         requires open { IsOpen self.old (W.blocks world.old) }
         requires standing { W.told → Standing self.old (now (W.log world.old)) }
-        ensures does { W.told → let s = state_on self.old (now (W.log world.old)) in
-            FitsFor s line.now → Does (other_effect s line.now) self.old self.new (W.log world.old) (W.log world.new) result }
+        ensures does { W.told → Did (MayDoOther (state_on self.old (now (W.log world.old))) line.now) self.old self.new (W.log world.old) (W.log world.new) result }
         ensures standing { W.told → IfReplied result (Standing self.new (now (W.log world.new))) }
         ensures open { IfReplied result (IsOpen self.new (W.blocks world.new)) }
         ensures blocks { W.blocks world.new ≡ W.blocks world.old }

@@ -18,11 +18,11 @@ use Rattle.tm_run.specs.Pairs.{AreSmall, IsPair, found}
 pub places_differ : (v z : List ℕ) → v ≢ z → is_place (Some v) (Some z) ≡ false
 places_differ v z apart = false_from_ne_true (is_place (Some v) (Some z)) (λ e. absurd (apart ((bytes_eq-Decides v z).0 e)))
 
-made_here : (p : List ℕ) (create : Option ℕ) (s : Outside) → (with_made p create s).stands (Some p) ≡ found p create s
+pub made_here : (p : List ℕ) (create : Option ℕ) (s : Outside) → (with_made p create s).stands (Some p) ≡ found p create s
 made_here p create s = elim ((s.stands (Some p)).there) as (λ b. (if b then s else put_at (Some p) (made create) s).stands (Some p) ≡ (if b then s.stands (Some p) else made create))
     [ true ↦ refl | false ↦ cond-true (is_place (Some p) (Some p)) (made create) (s.stands (Some p)) (is_place-same (Some p)) ]
 
-made_other : (p : List ℕ) (q : Place) (create : Option ℕ) (s : Outside) → is_place (Some p) q ≡ false → (with_made p create s).stands q ≡ s.stands q
+pub made_other : (p : List ℕ) (q : Place) (create : Option ℕ) (s : Outside) → is_place (Some p) q ≡ false → (with_made p create s).stands q ≡ s.stands q
 made_other p q create s apart = elim ((s.stands (Some p)).there) as (λ b. (if b then s else put_at (Some p) (made create) s).stands q ≡ s.stands q)
     [ true ↦ refl | false ↦ cond-false (is_place (Some p) q) (made create) (s.stands q) apart ]
 
@@ -30,7 +30,7 @@ made_other p q create s apart = elim ((s.stands (Some p)).there) as (λ b. (if b
 found_same : (p : List ℕ) (create : Option ℕ) (s t : Outside) → t.stands (Some p) ≡ s.stands (Some p) → found p create t ≡ found p create s
 found_same p create s t same = ap (λ (d : Disk). if d.there then d else made create) same
 
-volume_made : (p : List ℕ) (create : Option ℕ) (s : Outside) → (with_made p create s).volume ≡ s.volume
+pub volume_made : (p : List ℕ) (create : Option ℕ) (s : Outside) → (with_made p create s).volume ≡ s.volume
 volume_made p create s = elim ((s.stands (Some p)).there) as (λ b. (if b then s else put_at (Some p) (made create) s).volume ≡ s.volume) [ true ↦ refl | false ↦ refl ]
 
 pub said_made : (p : List ℕ) (create : Option ℕ) (s : Outside) → (with_made p create s).said ≡ s.said

@@ -2,19 +2,18 @@
 use Rattle.std.proofs.Common.{◌≡◌, ℕ, List, ◌++◌, take, drop, length, length-append, Result, Ok, Err, OnOk, codes, refl, sym, ap, ◌∙◌, arith, ◌≤◌, subst, append_assoc, append-nil, ◌+◌}
 use Rattle.std.proofs.lemmas.List.{take_all, take-append-le, take-append-drop}
 use Rattle.std.proofs.Math.Seq.{take-append-add, drop-append_seam}
-use Rattle.tm_world.specs.Outside.{Outside, disk, spoke}
+use Rattle.tm_world.specs.Outside.{Outside, disk, place, spoke}
 use Rattle.tm_world.specs.Log.{Log, now, Passes, Says}
 use Rattle.tm_world.specs.declared.world.Side.{Side as WorldSide}
 use Rattle.tm_world.specs.declared.world.Side.TheVariants.{Volume as VolumeSide, Store as StoreSide}
 use Rattle.tm_world.proofs.Going.{Passes-weaker}
 use Rattle.tm_world.proofs.Pairs.{Says-ends}
-use Rattle.tm_run.specs.Ends.{SaysAll, SaysPrefix}
+use Rattle.tm_run.specs.Ends.{SaysAll, SaysPrefix, Speaks}
 use Rattle.std.specs.Fmt.{decimal}
 use Rattle.tm_base.specs.declared.refused.Side.{Side}
 use Rattle.tm_world.specs.declared.cause.Cause.{Cause}
 use Rattle.tm_run.specs.Outcomes.{bad_image_line, cause_word, side_word}
 use Rattle.tm_run.specs.Pairs.{KeepsPair}
-use Rattle.tm_run.specs.Stops.{Speaks}
 
 -- the line on a bad image, by its words
 pub bad_image_is : (s : Side) (c : Cause) (place : ℕ) (which why text : List ℕ) → which ≡ side_word s → why ≡ cause_word c
@@ -77,6 +76,11 @@ unfolding spoke disk
 same_sides bytes s VolumeSide = refl
 same_sides bytes s StoreSide = refl
 
+same_places : (bytes : List ℕ) (s : Outside) (side : WorldSide) → place side (spoke bytes s) ≡ place side s
+unfolding spoke
+same_places bytes s VolumeSide = refl
+same_places bytes s StoreSide = refl
+
 -- at each moment a prefix was said, and nothing else is another
 spoke_speaks : (bytes : List ℕ) (s : Outside) (n m : ℕ) → n ≤ length bytes → m ≤ n → Speaks bytes s (spoke (take m bytes) s)
 unfolding spoke disk
@@ -84,6 +88,7 @@ spoke_speaks bytes s n m within le = record {
   said = record { count = m; within = omega (arith, le, within); part = refl };
   pair = record { sides = same_sides (take m bytes) s; apart = λ apart. apart };
   stands = refl;
+  places = same_places (take m bytes) s;
 }
 
 pub speaks_at : (old new : Log) (bytes : List ℕ) (n : ℕ) → Says old new bytes n → Passes old new (Speaks bytes (now old))

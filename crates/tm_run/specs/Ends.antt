@@ -2,13 +2,12 @@
 use Rattle.std.specs.Prelude.{◌≡◌, ℕ, ◌≤◌, List, ◌++◌, take, length}
 use Rattle.tm_text.specs.declared.line.Line.{Line}
 use Rattle.tm_world.specs.Disk.{Image}
-use Rattle.tm_world.specs.Outside.{Outside}
-use Rattle.tm_machine.specs.Runs.{state_after}
-use Rattle.tm_machine.specs.States.{Stored, kept, opened}
-use Rattle.tm_machine.specs.Stops.{LeavesPair, PairReads}
+use Rattle.tm_world.specs.Outside.{Outside, place}
+use Rattle.tm_world.specs.declared.world.Side.{Side}
 use Rattle.tm_run.specs.declared.status.Status.{Status}
 use Rattle.tm_run.specs.declared.status.Status.TheVariants as status
-use Rattle.tm_run.specs.Outcomes.{IsStart, Outcome, Ran}
+use Rattle.tm_run.specs.Outcomes.{Outcome, Ran}
+use Rattle.tm_run.specs.Pairs.{KeepsPair}
 
 -- the run was not cut short by a fault or by want of memory
 abbrev pub IsWhole : Status → Type 0
@@ -21,6 +20,13 @@ IsWhole (status.Device side) = ⊥
 IsWhole status.Memory = ⊥
 IsWhole status.ScriptFault = ⊥
 IsWhole status.OutFault = ⊥
+
+-- it was, but not by a fault of the output
+abbrev pub IsCut : Status → Type 0
+IsCut (status.Device side) = Unit {0}
+IsCut status.Memory = Unit {0}
+IsCut status.ScriptFault = Unit {0}
+IsCut _ = ⊥
 
 -- every line was done or refused
 abbrev pub IsDone : Status → Type 0
@@ -57,10 +63,9 @@ pub record GaveRan (v z : Image) (lines : List Line) (old new : Outside) (ended 
   pub ran : Ran v z lines ended text
   pub said : SaysAll text old new
 
--- whatever pair a stop leaves reads as what is kept of the state after all lines
-abbrev pub LeavesLast : Image → Image → List Line → Outside → Type 0
-LeavesLast v z lines now = (r : Stored) → PairReads r v z → LeavesPair (kept (state_after (opened v.count z.count r) lines)) now
-
--- the same of a run
-abbrev pub LeavesEnd : List (List ℕ) → Outside → Outside → Type 0
-LeavesEnd words old new = (lines : List Line) (v z : Image) → IsStart words old lines v z → LeavesLast v z lines new
+-- a prefix of the text was said, and nothing else is another
+pub record Speaks (text : List ℕ) (old now : Outside) : Type 0 where
+  pub said : SaysPrefix text old now
+  pub pair : KeepsPair old now
+  pub stands : now.stands ≡ old.stands
+  pub places : (side : Side) → place side now ≡ place side old

@@ -5,5 +5,8 @@ pub mod Pairs
 pub mod Outcomes
 pub mod Ends
 pub mod Readings
-pub mod Stops
-pub mod Fits
+pub mod Places
+pub mod Done
+pub mod Moments
+pub mod Claims
+pub mod Rows

@@ -11,9 +11,9 @@ use Rattle.tm_text.specs.declared.line.Line.{Line}
 use Rattle.tm_text.specs.Script.{IsScript, IsFirstBad}
 use Rattle.tm_store_records.specs.States.{StoreFails}
 use Rattle.tm_volume.specs.Answers.{FailsVolume, IsSpent}
-use Rattle.tm_machine.specs.Fitting.{FitsAll}
+use Rattle.tm_machine.specs.Fitting.{FitsReopened}
 use Rattle.tm_machine.specs.States.{Stored, opened}
-use Rattle.tm_machine.specs.Stops.{CanOpen, PairReads}
+use Rattle.tm_machine.specs.Stops.{CanOpen, CanOpenStore, PairReads}
 use Rattle.tm_machine.specs.Runs.{said_of, any_refused}
 use Rattle.tm_run.specs.declared.status.Status.{Status}
 use Rattle.tm_run.specs.declared.status.Status.TheVariants as status
@@ -112,12 +112,17 @@ abbrev pub StartsRun : Type 0
 StartsRun = (words : List (List ℕ)) (outside : Outside) (lines : List Line) (v z : Image) (ended : Status) (text : List ℕ)
     → IsStart words outside lines v z → Outcome words outside ended text → Ran v z lines ended text
 
+-- an image of which a check fails can't be opened
+pub record BadIsShut : Type 0 where
+  pub volume : (v : Image) (c : Cause) (place : ℕ) → 3 ≤ v.count → v.count ≤ 262144 → FailsVolume v c place → CanOpen v → ⊥
+  pub store : (z : Image) (c : Cause) (place : ℕ) → 3 ≤ z.count → z.count ≤ 262144 → StoreFails z c place → CanOpenStore z → ⊥
+
 -- ---- fit
 
--- the pair fits where a backup needs it: then stamps tell what is as it was
-abbrev pub FitsLines : Image → Image → List Line → Type 0
-FitsLines v z lines = (r : Stored) → PairReads r v z → FitsAll (opened v.count z.count r) lines
+-- what a pair of images reads as, if anything, fits once it is opened again
+abbrev pub FitsPair : Image → Image → Type 0
+FitsPair v z = (r : Stored) → PairReads r v z → FitsReopened r
 
--- the pair that some words name does, for the lines that they name
-abbrev pub FitsRun : List (List ℕ) → Outside → Type 0
-FitsRun words outside = (lines : List Line) (v z : Image) → IsStart words outside lines v z → FitsLines v z lines
+-- and so does the pair that some words name
+abbrev pub FitsStart : List (List ℕ) → Outside → Type 0
+FitsStart words outside = (lines : List Line) (v z : Image) → IsStart words outside lines v z → FitsPair v z

@@ -1,23 +1,27 @@
 //! Lines over a pair of images.
-ghost use Rattle.std.specs.Prelude.{◌≡◌, ◌≢◌, ◌≤◌, ℕ, List, All};
+ghost use Rattle.std.specs.Prelude.{◌≡◌, ◌≢◌, ◌≤◌, ℕ, List, Option, All};
 ghost use Rattle.std.specs.Option.{ForSome};
 ghost use Rattle.tm_base.specs.declared.refused.Side.{Side as Named};
-ghost use Rattle.tm_machine.specs.Fitting.{FitsAll};
-ghost use Rattle.tm_machine.specs.Runs.{any_refused, said_of, state_after};
 ghost use Rattle.tm_machine.specs.Session.{IsOpen, IsSynced, Standing, part_of, state_on};
-ghost use Rattle.tm_machine.specs.States.{kept};
-ghost use Rattle.tm_machine.specs.Stops.{LeavesPair, LeavesPrefix};
+ghost use Rattle.tm_machine.specs.States.{Stored};
+ghost use Rattle.tm_machine.specs.Stops.{CanOpen, CanOpenStore, IsFramed, PairReads};
 ghost use Rattle.tm_text.specs.Bounds.{IsValidLine};
+ghost use Rattle.tm_volume.specs.Answers.{IsSpent};
+ghost use Rattle.tm_volume.specs.Reads.{SideReads};
+ghost use Rattle.tm_volume.specs.Stored.{StoredVolume};
 ghost use Rattle.tm_world.specs.Disk.{Image};
 ghost use Rattle.tm_world.specs.Faults.{NeverLess, Rose};
 ghost use Rattle.tm_world.specs.Log.{now, Passes};
 ghost use Rattle.tm_world.specs.declared.world.Part.{Part};
 ghost use Rattle.tm_world.specs.declared.world.Side.TheVariants.{Volume as VolumeSide, Store as StoreSide};
-ghost use Rattle.tm_run.specs.Ends.{GaveRan, IsDone, IsWhole, LeavesLast, SaysAll, SaysPrefix};
-ghost use Rattle.tm_run.specs.Outcomes.{FitsLines, Ran, done_status};
+ghost use Rattle.tm_run.specs.Claims.{KeepsBoth, KeepsStore};
+ghost use Rattle.tm_run.specs.Done.{EndsDone, SaidLines};
+ghost use Rattle.tm_run.specs.Ends.{GaveRan, IsCut, IsWhole, SaysPrefix};
+ghost use Rattle.tm_run.specs.Moments.{BesideShut, EndsOnSides, KeepsDisks, RanOnSides, RanOver};
+ghost use Rattle.tm_run.specs.Outcomes.{FitsPair, Ran, done_status};
 ghost use Rattle.tm_run.specs.Pairs.{IsPair, image_at};
+ghost use Rattle.tm_run.specs.Places.{ElsewhereSame};
 ghost use Rattle.tm_run.specs.Readings.{IsEndOfLines};
-ghost use Rattle.tm_run.specs.Stops.{Survives};
 ghost use Rattle.tm_run.specs.declared.status.Status.{Status};
 
 use crate::command::Command;
@@ -26,7 +30,10 @@ use crate::output::say_bad_image;
 use crate::pair::open_pair;
 use crate::status::Status;
 use std::alloc::Global;
-use tm_machine::{LineEnd, Session, SessionError, session_is_left};
+use tm_machine::{
+    LineEnd, Session, SessionError, commits_end, plain_is_history, plain_where_fits,
+    session_is_left,
+};
 use tm_store::laws::{sides_read_as_one, store_fails_once};
 use tm_text::Lines;
 use tm_volume::laws::{sides_read_as_one as volume_sides_read_as_one, volume_fails_once};
@@ -53,11 +60,8 @@ fn run_session<W: World>(
     requires lines { All IsValidLine lines.now }
     requires open { IsOpen session.old (W.blocks world.old) }
     requires standing { W.told → Standing session.old (now (W.log world.old)) }
-    ensures whole { W.told → let s = state_on session.old (now (W.log world.old)) in FitsAll s lines.now → IsWhole result → result ≡ done_status (any_refused s lines.now) }
-    ensures said { W.told → let s = state_on session.old (now (W.log world.old)) in FitsAll s lines.now → IsWhole result → SaysAll (said_of s lines.now) (now (W.log world.old)) (now (W.log world.new)) }
-    ensures cut { W.told → let s = state_on session.old (now (W.log world.old)) in FitsAll s lines.now → SaysPrefix (said_of s lines.now) (now (W.log world.old)) (now (W.log world.new)) }
-    ensures left { W.told → let s = state_on session.old (now (W.log world.old)) in FitsAll s lines.now → IsDone result → LeavesPair (kept (state_after s lines.now)) (now (W.log world.new)) }
-    ensures any_moment { W.told → let s = state_on session.old (now (W.log world.old)) in FitsAll s lines.now → Passes (W.log world.old) (W.log world.new) (LeavesPrefix s lines.now (now (W.log world.old)).said) }
+    ensures does { W.told → SaidLines (state_on session.old (now (W.log world.old))) lines.now (W.log world.old) (W.log world.new)
+        (λ done. EndsDone result (state_on session.old (now (W.log world.old))) done (now (W.log world.old)) (now (W.log world.new))) }
     ensures ends { IsEndOfLines result }
     ensures never_less { NeverLess (W.faults world.old) (W.faults world.new) }
     ensures fault { result ≡ Status.OutFault → Rose (W.faults world.old Part.Out) (W.faults world.new Part.Out) }
@@ -91,11 +95,16 @@ fn run_images<W: World>(
     requires store_small { store_blocks ≤ 262144 }
     requires settled { W.told → IsSynced (now (W.log world.old)) }
     requires lines { All IsValidLine lines.now }
-    ensures outcome { W.told → (v z : Image) → IsPair v z (now (W.log world.old)) → FitsLines v z lines.now → IsWhole result → GaveRan v z lines.now (now (W.log world.old)) (now (W.log world.new)) result }
-    ensures prefix { W.told → (v z : Image) → IsPair v z (now (W.log world.old)) → FitsLines v z lines.now → (status : Status) (text : List ℕ) → Ran v z lines.now status text
+    ensures history { W.told → (v z : Image) → IsPair v z (now (W.log world.old)) → (r : Stored) → PairReads r v z → ¬ IsSpent r.volume
+        → RanOnSides lines.now v.count z.count r (W.log world.old) (W.log world.new) (EndsOnSides result (now (W.log world.old)) (now (W.log world.new))) }
+    ensures outcome { W.told → (v z : Image) → IsPair v z (now (W.log world.old)) → FitsPair v z → IsWhole result → GaveRan v z lines.now (now (W.log world.old)) (now (W.log world.new)) result }
+    ensures prefix { W.told → (v z : Image) → IsPair v z (now (W.log world.old)) → FitsPair v z → (status : Status) (text : List ℕ) → Ran v z lines.now status text
         → SaysPrefix text (now (W.log world.old)) (now (W.log world.new)) }
-    ensures left { W.told → (v z : Image) → IsPair v z (now (W.log world.old)) → FitsLines v z lines.now → IsDone result → LeavesLast v z lines.now (now (W.log world.new)) }
-    ensures any_moment { W.told → (v z : Image) → IsPair v z (now (W.log world.old)) → FitsLines v z lines.now → Survives v z lines.now (W.log world.old) (W.log world.new) }
+    ensures framed { W.told → Passes (W.log world.old) (W.log world.new) (IsFramed (now (W.log world.old))) }
+    ensures shut_volume { W.told → (v z : Image) → IsPair v z (now (W.log world.old)) → (CanOpen v → ⊥) → Passes (W.log world.old) (W.log world.new) (KeepsDisks (now (W.log world.old))) }
+    ensures shut_store { W.told → (v z : Image) → IsPair v z (now (W.log world.old)) → (r : Option StoredVolume) → SideReads v r → (CanOpenStore z → ⊥)
+        → Passes (W.log world.old) (W.log world.new) (BesideShut r (now (W.log world.old))) }
+    ensures silent { W.told → (v z : Image) → IsPair v z (now (W.log world.old)) → (CanOpen v → CanOpenStore z → ⊥) → IsCut result → (now (W.log world.new)).said ≡ (now (W.log world.old)).said }
     ensures ends { IsEndOfLines result }
     ensures never_less { NeverLess (W.faults world.old) (W.faults world.new) }
     ensures fault { result ≡ Status.OutFault → Rose (W.faults world.old Part.Out) (W.faults world.new Part.Out) }
@@ -105,6 +114,9 @@ fn run_images<W: World>(
     volume_fails_once();
     sides_read_as_one();
     store_fails_once();
+    commits_end();
+    plain_is_history();
+    plain_where_fits();
     match Session::load(alloc, world, volume_blocks, store_blocks) {
         Ok(mut session) => run_session(alloc, world, &mut session, lines),
         Err(SessionError::Bad { side, cause, place }) => {
@@ -125,19 +137,28 @@ pub(crate) fn run_command<W: World>(
     requires create { ForSome command.create (λ n. (1 ≤ n) × (n ≤ 262144)) }
     requires differ { command.volume.now ≢ command.store.now }
     requires lines { All IsValidLine lines.now }
+    ensures history { W.told → let old = now (W.log world.old) in let v = image_at command.entry.volume.now command.entry.create old in let z = image_at command.entry.store.now command.entry.create old in
+        (r : Stored) → PairReads r v z → ¬ IsSpent r.volume
+        → RanOver lines.now command.entry.volume.now command.entry.store.now command.entry.create v.count z.count r (W.log world.old) (W.log world.new) result }
     ensures outcome { W.told → let old = now (W.log world.old) in let v = image_at command.entry.volume.now command.entry.create old in let z = image_at command.entry.store.now command.entry.create old in
-        FitsLines v z lines.now → IsWhole result → GaveRan v z lines.now old (now (W.log world.new)) result }
+        FitsPair v z → IsWhole result → GaveRan v z lines.now old (now (W.log world.new)) result }
     ensures prefix { W.told → let old = now (W.log world.old) in let v = image_at command.entry.volume.now command.entry.create old in let z = image_at command.entry.store.now command.entry.create old in
-        FitsLines v z lines.now → (status : Status) (text : List ℕ) → Ran v z lines.now status text → SaysPrefix text old (now (W.log world.new)) }
-    ensures left { W.told → let old = now (W.log world.old) in let v = image_at command.entry.volume.now command.entry.create old in let z = image_at command.entry.store.now command.entry.create old in
-        FitsLines v z lines.now → IsDone result → LeavesLast v z lines.now (now (W.log world.new)) }
-    ensures any_moment { W.told → let old = now (W.log world.old) in let v = image_at command.entry.volume.now command.entry.create old in let z = image_at command.entry.store.now command.entry.create old in
-        FitsLines v z lines.now → Survives v z lines.now (W.log world.old) (W.log world.new) }
+        FitsPair v z → (status : Status) (text : List ℕ) → Ran v z lines.now status text → SaysPrefix text old (now (W.log world.new)) }
+    ensures elsewhere { W.told → Passes (W.log world.old) (W.log world.new) (ElsewhereSame command.entry.volume.now command.entry.store.now (now (W.log world.old))) }
+    ensures shut_volume { W.told → (CanOpen (image_at command.entry.volume.now command.entry.create (now (W.log world.old))) → ⊥)
+        → Passes (W.log world.old) (W.log world.new) (KeepsBoth command.entry.volume.now command.entry.store.now command.entry.create (now (W.log world.old))) }
+    ensures shut_store { W.told → let old = now (W.log world.old) in (r : Option StoredVolume) → SideReads (image_at command.entry.volume.now command.entry.create old) r
+        → (CanOpenStore (image_at command.entry.store.now command.entry.create old) → ⊥)
+        → Passes (W.log world.old) (W.log world.new) (KeepsStore r command.entry.volume.now command.entry.store.now command.entry.create old) }
+    ensures silent { W.told → let old = now (W.log world.old) in (CanOpen (image_at command.entry.volume.now command.entry.create old) → CanOpenStore (image_at command.entry.store.now command.entry.create old) → ⊥)
+        → IsCut result → (now (W.log world.new)).said ≡ old.said }
     ensures ends { IsEndOfLines result }
     ensures never_less { NeverLess (W.faults world.old) (W.faults world.new) }
     ensures fault { result ≡ Status.OutFault → Rose (W.faults world.old Part.Out) (W.faults world.new Part.Out) }
     ensures device { (side : Named) → result ≡ Status.Device side → Rose (W.faults world.old (part_of side)) (W.faults world.new (part_of side)) }
 {
+    commits_end();
+    plain_is_history();
     let (volume_blocks, store_blocks) = match open_pair(world, command) {
         Ok(blocks) => blocks,
         Err(side) => return Status::Device { side },

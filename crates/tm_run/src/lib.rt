@@ -11,6 +11,6 @@ mod script;
 mod status;
 mod top;
 
-pub use laws::{fit_carries, one_outcome};
+pub use laws::{bad_is_shut, one_outcome, rows_pass, sides_are_paths};
 pub use status::Status;
 pub use top::run;

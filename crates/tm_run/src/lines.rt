@@ -1,23 +1,22 @@
 //! The lines of a script, one after the other.
 ghost use Rattle.std.specs.Prelude.{◌≡◌, IfOk, OnOk, Err, All, is_some};
 ghost use Rattle.tm_base.specs.declared.refused.Side.{Side as Named};
-ghost use Rattle.tm_machine.specs.Fitting.{FitsAll, FitsFor};
+ghost use Rattle.tm_machine.specs.Allowed.{after_of, reply_of};
+ghost use Rattle.tm_machine.specs.Histories.{any_refused_in, said_in, state_in};
 ghost use Rattle.tm_machine.specs.Session.{IsOpen, Standing, part_of, state_on};
 ghost use Rattle.tm_text.specs.Bounds.{IsValidLine};
+ghost use Rattle.tm_tree.specs.Refusing.{first_refused};
 ghost use Rattle.tm_world.specs.declared.world.Part.{Part};
-ghost use Rattle.tm_world.specs.Log.{now, Passes};
+ghost use Rattle.tm_world.specs.Log.{now};
 ghost use Rattle.tm_world.specs.Faults.{Rose, NeverLess};
-ghost use Rattle.tm_machine.specs.Runs.{said_of, any_refused, state_after};
-ghost use Rattle.tm_machine.specs.Steps.{reply, refusal, step};
 ghost use Rattle.tm_reply.specs.Replies.{reply_text};
-ghost use Rattle.tm_machine.specs.Stops.{LeavesPrefix};
-ghost use Rattle.tm_run.specs.Ends.{SaysAll, SaysPrefix};
-ghost use Rattle.tm_run.specs.Stops.{LeavesLine};
+ghost use Rattle.tm_run.specs.Done.{SaidLine, SaidLines};
+ghost use Rattle.tm_run.specs.Ends.{SaysAll};
 
 use crate::output::say;
 use std::alloc::{AllocError, Global};
 use tm_base::Side;
-use tm_machine::{LineEnd, Session, commits_end, replies_are_some, session_is_left};
+use tm_machine::{LineEnd, Session, commits_end, plain_is_history, session_is_left};
 use tm_reply::print;
 use tm_text::Line;
 use tm_world::{Failed, World};
@@ -63,11 +62,9 @@ fn run_line<W: World>(
     requires line { IsValidLine line.now }
     requires open { IsOpen session.old (W.blocks world.old) }
     requires standing { W.told → Standing session.old (now (W.log world.old)) }
-    ensures refused { W.told → let s = state_on session.old (now (W.log world.old)) in FitsFor s line.now → IfOk result (λ refused. refused ≡ is_some (refusal s line.now)) }
-    ensures state { W.told → let s = state_on session.old (now (W.log world.old)) in FitsFor s line.now → OnOk result (state_on session.new (now (W.log world.new)) ≡ step s line.now) }
-    ensures said { W.told → let s = state_on session.old (now (W.log world.old)) in FitsFor s line.now → OnOk result (SaysAll (reply_text (reply s line.now)) (now (W.log world.old)) (now (W.log world.new))) }
-    ensures cut { W.told → let s = state_on session.old (now (W.log world.old)) in FitsFor s line.now → SaysPrefix (reply_text (reply s line.now)) (now (W.log world.old)) (now (W.log world.new)) }
-    ensures any_moment { W.told → let s = state_on session.old (now (W.log world.old)) in FitsFor s line.now → Passes (W.log world.old) (W.log world.new) (LeavesLine s line.now (now (W.log world.old))) }
+    ensures does { W.told → SaidLine (state_on session.old (now (W.log world.old))) line.now (W.log world.old) (W.log world.new)
+        (λ d. IfOk result (λ refused. (refused ≡ is_some (first_refused d.tested)) × (state_on session.new (now (W.log world.new)) ≡ after_of d)
+        × SaysAll (reply_text (reply_of d)) (now (W.log world.old)) (now (W.log world.new)))) }
     ensures open { OnOk result (IsOpen session.new (W.blocks world.new)) }
     ensures standing { W.told → OnOk result (Standing session.new (now (W.log world.new))) }
     ensures blocks { W.blocks world.new ≡ W.blocks world.old }
@@ -99,11 +96,9 @@ pub(crate) fn run_lines<W: World>(
     requires lines { All IsValidLine lines.now }
     requires open { IsOpen session.old (W.blocks world.old) }
     requires standing { W.told → Standing session.old (now (W.log world.old)) }
-    ensures refused { W.told → let s = state_on session.old (now (W.log world.old)) in FitsAll s lines.now → IfOk result (λ refused. refused ≡ any_refused s lines.now) }
-    ensures state { W.told → let s = state_on session.old (now (W.log world.old)) in FitsAll s lines.now → OnOk result (state_on session.new (now (W.log world.new)) ≡ state_after s lines.now) }
-    ensures said { W.told → let s = state_on session.old (now (W.log world.old)) in FitsAll s lines.now → OnOk result (SaysAll (said_of s lines.now) (now (W.log world.old)) (now (W.log world.new))) }
-    ensures cut { W.told → let s = state_on session.old (now (W.log world.old)) in FitsAll s lines.now → SaysPrefix (said_of s lines.now) (now (W.log world.old)) (now (W.log world.new)) }
-    ensures any_moment { W.told → let s = state_on session.old (now (W.log world.old)) in FitsAll s lines.now → Passes (W.log world.old) (W.log world.new) (LeavesPrefix s lines.now (now (W.log world.old)).said) }
+    ensures does { W.told → SaidLines (state_on session.old (now (W.log world.old))) lines.now (W.log world.old) (W.log world.new)
+        (λ done. IfOk result (λ refused. (refused ≡ any_refused_in done) × (state_on session.new (now (W.log world.new)) ≡ state_in (state_on session.old (now (W.log world.old))) done)
+        × SaysAll (said_in done) (now (W.log world.old)) (now (W.log world.new)))) }
     ensures open { OnOk result (IsOpen session.new (W.blocks world.new)) }
     ensures standing { W.told → OnOk result (Standing session.new (now (W.log world.new))) }
     ensures blocks { W.blocks world.new ≡ W.blocks world.old }
@@ -112,7 +107,7 @@ pub(crate) fn run_lines<W: World>(
     ensures device { (side : Named) → result ≡ Err (RunEnd.Device side) → Rose (W.faults world.old (part_of side)) (W.faults world.new (part_of side)) }
 {
     commits_end();
-    replies_are_some();
+    plain_is_history();
     let mut refused = false;
     for line in lines {
         refused |= run_line(alloc, session, world, line)?;

@@ -3,11 +3,10 @@ ghost use Rattle.std.specs.Prelude.{◌≡◌, ◌≢◌, ◌⊎◌, OnOk, OnErr
 ghost use Rattle.tm_world.specs.declared.world.Part.{Part};
 ghost use Rattle.tm_world.specs.Log.{now, Passes};
 ghost use Rattle.tm_world.specs.Faults.{Rose, NeverLess};
-ghost use Rattle.tm_run.specs.Ends.{SaysAll, SaysPrefix};
+ghost use Rattle.tm_run.specs.Ends.{SaysAll, SaysPrefix, Speaks};
 ghost use Rattle.tm_run.specs.Outcomes.{bad_image_line, bad_line, cause_word, side_word};
 ghost use Rattle.tm_run.specs.Pairs.{KeepsPair};
 ghost use Rattle.tm_run.specs.Readings.{IsOneOf};
-ghost use Rattle.tm_run.specs.Stops.{Speaks};
 
 use crate::status::Status;
 use std::alloc::{AllocError, Global};
@@ -49,6 +48,7 @@ pub(crate) fn say_bad_line<W: World>(alloc: Global, world: &mut W, line: u64) ->
     ensures status { IsOneOf (Status.Script line) result }
     ensures said { W.told → result ≡ Status.Script line → SaysAll (bad_line line) (now (W.log world.old)) (now (W.log world.new)) }
     ensures cut { W.told → SaysPrefix (bad_line line) (now (W.log world.old)) (now (W.log world.new)) }
+    ensures silent { W.told → result ≡ Status.Memory → (now (W.log world.new)).said ≡ (now (W.log world.old)).said }
     ensures any_moment { W.told → Passes (W.log world.old) (W.log world.new) (Speaks (bad_line line) (now (W.log world.old))) }
     ensures blocks { W.blocks world.new ≡ W.blocks world.old }
     ensures never_less { NeverLess (W.faults world.old) (W.faults world.new) }
@@ -98,6 +98,9 @@ pub(crate) fn say_bad_image<W: World>(
     ensures status { IsOneOf (Status.BadImage side cause place) result }
     ensures said { W.told → result ≡ Status.BadImage side cause place → SaysAll (bad_image_line side cause place) (now (W.log world.old)) (now (W.log world.new)) }
     ensures cut { W.told → SaysPrefix (bad_image_line side cause place) (now (W.log world.old)) (now (W.log world.new)) }
+    ensures silent { W.told → result ≡ Status.Memory → (now (W.log world.new)).said ≡ (now (W.log world.old)).said }
+    ensures any_moment { W.told → Passes (W.log world.old) (W.log world.new) (Speaks (bad_image_line side cause place) (now (W.log world.old))) }
+    ensures blocks { W.blocks world.new ≡ W.blocks world.old }
     ensures never_less { NeverLess (W.faults world.old) (W.faults world.new) }
     ensures fault { result ≡ Status.OutFault → Rose (W.faults world.old Part.Out) (W.faults world.new Part.Out) }
 {

@@ -1,14 +1,15 @@
 //! The pair of images, attached and synced.
-ghost use Rattle.std.specs.Prelude.{◌≡◌, ◌≢◌, ◌≤◌, ◌<◌, IfOk, OnOk, Err};
+ghost use Rattle.std.specs.Prelude.{◌≡◌, ◌≢◌, ◌≤◌, ◌<◌, ℕ, IfOk, List, OnOk, Option, Err};
 ghost use Rattle.std.specs.Option.{ForSome};
 ghost use Rattle.tm_base.specs.declared.refused.Side.{Side as Named};
 ghost use Rattle.tm_machine.specs.Session.{IsSynced, part_of};
 ghost use Rattle.tm_world.specs.Disk.{Image};
 ghost use Rattle.tm_world.specs.Faults.{NeverLess, Rose};
 ghost use Rattle.tm_world.specs.Log.{now, Passes};
+ghost use Rattle.tm_world.specs.Outside.{Outside};
 ghost use Rattle.tm_world.specs.declared.world.Side.TheVariants.{Volume as VolumeSide, Store as StoreSide};
+ghost use Rattle.tm_run.specs.Moments.{IsAttached, IsFinding};
 ghost use Rattle.tm_run.specs.Pairs.{IsPair, image_at};
-ghost use Rattle.tm_run.specs.Stops.{IsUntouched};
 
 use crate::command::Command;
 use tm_base::Side;
@@ -21,7 +22,8 @@ fn attach_pair<W: World>(world: &mut W, command: Command<'_>) -> Result<(u32, u3
     ensures pair { W.told → let old = now (W.log world.old) in
         OnOk result (IsPair (image_at command.entry.volume.now command.entry.create old) (image_at command.entry.store.now command.entry.create old) (now (W.log world.new))) }
     ensures said { W.told → (now (W.log world.new)).said ≡ (now (W.log world.old)).said }
-    ensures any_moment { W.told → Passes (W.log world.old) (W.log world.new) (IsUntouched (now (W.log world.old))) }
+    ensures attached { W.told → OnOk result (IsAttached command.entry.volume.now command.entry.store.now command.entry.create (now (W.log world.old)) (now (W.log world.new))) }
+    ensures any_moment { W.told → Passes (W.log world.old) (W.log world.new) (IsFinding command.entry.volume.now command.entry.store.now command.entry.create (now (W.log world.old))) }
     ensures count { IfOk result (λ n. (W.blocks world.new VolumeSide ≡ n.0) × (n.0 ≤ 262144) × (W.blocks world.new StoreSide ≡ n.1) × (n.1 ≤ 262144)) }
     ensures never_less { NeverLess (W.faults world.old) (W.faults world.new) }
     ensures fault { (side : Named) → result ≡ Err side → Rose (W.faults world.old (part_of side)) (W.faults world.new (part_of side)) }
@@ -41,7 +43,8 @@ fn attach_pair<W: World>(world: &mut W, command: Command<'_>) -> Result<(u32, u3
 fn sync_pair<W: World>(world: &mut W) -> Result<(), Side>
     ensures pair { W.told → (v z : Image) → IsPair v z (now (W.log world.old)) → OnOk result (IsPair v z (now (W.log world.new)) × IsSynced (now (W.log world.new))) }
     ensures said { W.told → (now (W.log world.new)).said ≡ (now (W.log world.old)).said }
-    ensures any_moment { W.told → Passes (W.log world.old) (W.log world.new) (IsUntouched (now (W.log world.old))) }
+    ensures attached { W.told → (p q : List ℕ) (create : Option ℕ) (start : Outside) → IsAttached p q create start (now (W.log world.old)) → OnOk result (IsAttached p q create start (now (W.log world.new))) }
+    ensures any_moment { W.told → (p q : List ℕ) (create : Option ℕ) (start : Outside) → IsAttached p q create start (now (W.log world.old)) → Passes (W.log world.old) (W.log world.new) (IsFinding p q create start) }
     ensures blocks { W.blocks world.new ≡ W.blocks world.old }
     ensures never_less { NeverLess (W.faults world.old) (W.faults world.new) }
     ensures fault { (side : Named) → result ≡ Err side → Rose (W.faults world.old (part_of side)) (W.faults world.new (part_of side)) }
@@ -65,7 +68,8 @@ pub(crate) fn open_pair<W: World>(world: &mut W, command: Command<'_>) -> Result
         OnOk result (IsPair (image_at command.entry.volume.now command.entry.create old) (image_at command.entry.store.now command.entry.create old) (now (W.log world.new))) }
     ensures synced { W.told → OnOk result (IsSynced (now (W.log world.new))) }
     ensures said { W.told → (now (W.log world.new)).said ≡ (now (W.log world.old)).said }
-    ensures any_moment { W.told → Passes (W.log world.old) (W.log world.new) (IsUntouched (now (W.log world.old))) }
+    ensures attached { W.told → OnOk result (IsAttached command.entry.volume.now command.entry.store.now command.entry.create (now (W.log world.old)) (now (W.log world.new))) }
+    ensures any_moment { W.told → Passes (W.log world.old) (W.log world.new) (IsFinding command.entry.volume.now command.entry.store.now command.entry.create (now (W.log world.old))) }
     ensures count { IfOk result (λ n. (W.blocks world.new VolumeSide ≡ n.0) × (n.0 ≤ 262144) × (W.blocks world.new StoreSide ≡ n.1) × (n.1 ≤ 262144)) }
     ensures never_less { NeverLess (W.faults world.old) (W.faults world.new) }
     ensures fault { (side : Named) → result ≡ Err side → Rose (W.faults world.old (part_of side)) (W.faults world.new (part_of side)) }

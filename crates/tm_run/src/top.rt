@@ -8,10 +8,10 @@ ghost use Rattle.tm_machine.specs.Session.{part_of};
 ghost use Rattle.tm_text.specs.Bounds.{IsValidLine};
 ghost use Rattle.tm_run.specs.Command.{texts, IsSomeCommand};
 ghost use Rattle.tm_run.specs.Scripts.{IsReading};
-ghost use Rattle.tm_run.specs.Stops.{RunSurvives};
-ghost use Rattle.tm_run.specs.Outcomes.{FitsRun, Outcome};
+ghost use Rattle.tm_run.specs.Claims.{KeepsBesideStore, KeepsBesideVolume, LeavesEnd, NamesNoLines, NamesNoPair, PassesPlain, RunsOver, StaysElsewhere, StaysFit};
+ghost use Rattle.tm_run.specs.Outcomes.{FitsStart, Outcome};
 ghost use Rattle.tm_run.specs.Readings.{ReadsLines};
-ghost use Rattle.tm_run.specs.Ends.{IsBefore, IsDone, IsWhole, LeavesEnd, SaysPrefix, GaveOutcome};
+ghost use Rattle.tm_run.specs.Ends.{GaveOutcome, IsBefore, IsCut, IsDone, IsWhole, SaysPrefix};
 ghost use Rattle.tm_run.specs.declared.status.Status.{Status};
 
 use crate::command::read_words;
@@ -21,7 +21,9 @@ use crate::output::{say_bad_line, say_last};
 use crate::script::{ScriptError, read_script};
 use crate::status::Status;
 use std::alloc::Global;
+use tm_machine::{commits_end, plain_is_history, plain_where_fits};
 use tm_text::{Lines, ParseError, parse};
+use tm_volume::laws::sides_read_as_one as volume_sides_read_as_one;
 use tm_world::World;
 
 /// What is said where the words are not the command.
@@ -37,23 +39,41 @@ const TOO_LONG: &str = "script too long\n";
 /// them, and then does line after line, each with its reply. The first cause met ends the run, and
 /// nothing more is called after a fault or want of memory (`docs/SCRIPT.md`, "The end of a run").
 pub fn run<W: World>(alloc: Global, words: &[String], world: &mut W) -> Status
-    // A run over a pair that fits says, if it is not cut short, what the plain machine says, or why an image is bad.
-    ensures outcome { W.told → FitsRun (texts words.now) (now (W.log world.old)) → IsWhole result → GaveOutcome (texts words.now) (now (W.log world.old)) (now (W.log world.new)) result }
+    // Over every pair that reads as something, one history tells the run: what is said, what a stop leaves at each moment, and the end.
+    ensures history { W.told → RunsOver (texts words.now) (W.log world.old) (W.log world.new) result }
+
+    // Over a pair that fits, or an image that is bad: a run that isn't cut short says what the plain machine says, or why an image is bad.
+    ensures outcome { W.told → FitsStart (texts words.now) (now (W.log world.old)) → IsWhole result → GaveOutcome (texts words.now) (now (W.log world.old)) (now (W.log world.new)) result }
 
     // A run that is cut short says a prefix of that.
-    ensures prefix { W.told → FitsRun (texts words.now) (now (W.log world.old)) → (status : Status) (text : List ℕ) → Outcome (texts words.now) (now (W.log world.old)) status text
+    ensures prefix { W.told → FitsStart (texts words.now) (now (W.log world.old)) → (status : Status) (text : List ℕ) → Outcome (texts words.now) (now (W.log world.old)) status text
         → SaysPrefix text (now (W.log world.old)) (now (W.log world.new)) }
 
-    // Whatever a stop leaves after the last line reads as what is kept of the last state.
-    ensures left { W.told → FitsRun (texts words.now) (now (W.log world.old)) → IsDone result → LeavesEnd (texts words.now) (now (W.log world.old)) (now (W.log world.new)) }
+    // Over a pair that fits, whatever a stop leaves after the last line reads as what is kept of the plain machine's last state.
+    ensures left { W.told → FitsStart (texts words.now) (now (W.log world.old)) → IsDone result → LeavesEnd (texts words.now) (now (W.log world.old)) (now (W.log world.new)) }
 
-    // At each moment no image was written to yet, or whatever a stop leaves reads as what is kept after a prefix of the commits, which has those of each line
-    // whose reply was said. Of a pair that doesn't read, or whose generations are spent, it says nothing.
-    ensures any_moment { W.told → FitsRun (texts words.now) (now (W.log world.old)) → RunSurvives (texts words.now) (W.log world.old) (W.log world.new) }
+    // And at each moment the history is the plain machine's.
+    ensures any_moment { W.told → FitsStart (texts words.now) (now (W.log world.old)) → PassesPlain (texts words.now) (W.log world.old) (W.log world.new) }
 
-    // A run that ends before the images are attached leaves all images as they were, at each moment.
-    ensures images { W.told → IsBefore result → Passes (W.log world.old) (W.log world.new) (λ o. o.stands ≡ (now (W.log world.old)).stands) }
+    // Where whatever a stop would leave of the pair fits once it is opened again, so does whatever a stop leaves at each moment.
+    ensures fits { W.told → StaysFit (texts words.now) (W.log world.old) (W.log world.new) }
+
+    // What stands at other paths is as it was, whatever stands at these.
+    ensures elsewhere { W.told → StaysElsewhere (texts words.now) (W.log world.old) (W.log world.new) }
+
+    // An image that can't be opened is not written; beside one the other isn't either, but that a volume's generation may begin.
+    ensures shut_volume { W.told → KeepsBesideVolume (texts words.now) (W.log world.old) (W.log world.new) }
+    ensures shut_store { W.told → KeepsBesideStore (texts words.now) (W.log world.old) (W.log world.new) }
+
+    // Where the words are no command, or no script that is lines stands at its path, all images are as they were, at each moment.
+    ensures images { W.told → NamesNoLines (texts words.now) (now (W.log world.old)) → Passes (W.log world.old) (W.log world.new) (λ o. o.stands ≡ (now (W.log world.old)).stands) }
+
+    // So they are where the run ends before the images are attached.
+    ensures before { W.told → IsBefore result → Passes (W.log world.old) (W.log world.new) (λ o. o.stands ≡ (now (W.log world.old)).stands) }
     ensures blocks { IsBefore result → W.blocks world.new ≡ W.blocks world.old }
+
+    // A run that names no pair which can be opened, and that is cut short by anything but the output, says nothing.
+    ensures silent { W.told → NamesNoPair (texts words.now) (now (W.log world.old)) → IsCut result → (now (W.log world.new)).said ≡ (now (W.log world.old)).said }
 
     // The causes of each status, also where contents are not told.
     ensures usage { result ≡ Status.Usage → IsSomeCommand (texts words.now) → ⊥ }
@@ -63,7 +83,36 @@ pub fn run<W: World>(alloc: Global, words: &[String], world: &mut W) -> Status
     ensures device { (side : Named) → result ≡ Status.Device side → Rose (W.faults world.old (part_of side)) (W.faults world.new (part_of side)) }
     ensures never_less { NeverLess (W.faults world.old) (W.faults world.new) }
 {
+    plain_where_fits();
+    commits_end();
+    run_words(alloc, words, world)
+}
+
+// The same, of what every history and every image tell.
+fn run_words<W: World>(alloc: Global, words: &[String], world: &mut W) -> Status
+    ensures history { W.told → RunsOver (texts words.now) (W.log world.old) (W.log world.new) result }
+    ensures outcome { W.told → FitsStart (texts words.now) (now (W.log world.old)) → IsWhole result → GaveOutcome (texts words.now) (now (W.log world.old)) (now (W.log world.new)) result }
+    ensures prefix { W.told → FitsStart (texts words.now) (now (W.log world.old)) → (status : Status) (text : List ℕ) → Outcome (texts words.now) (now (W.log world.old)) status text
+        → SaysPrefix text (now (W.log world.old)) (now (W.log world.new)) }
+    ensures fits { W.told → StaysFit (texts words.now) (W.log world.old) (W.log world.new) }
+    ensures elsewhere { W.told → StaysElsewhere (texts words.now) (W.log world.old) (W.log world.new) }
+    ensures shut_volume { W.told → KeepsBesideVolume (texts words.now) (W.log world.old) (W.log world.new) }
+    ensures shut_store { W.told → KeepsBesideStore (texts words.now) (W.log world.old) (W.log world.new) }
+    ensures images { W.told → NamesNoLines (texts words.now) (now (W.log world.old)) → Passes (W.log world.old) (W.log world.new) (λ o. o.stands ≡ (now (W.log world.old)).stands) }
+    ensures before { W.told → IsBefore result → Passes (W.log world.old) (W.log world.new) (λ o. o.stands ≡ (now (W.log world.old)).stands) }
+    ensures blocks { IsBefore result → W.blocks world.new ≡ W.blocks world.old }
+    ensures silent { W.told → NamesNoPair (texts words.now) (now (W.log world.old)) → IsCut result → (now (W.log world.new)).said ≡ (now (W.log world.old)).said }
+    ensures usage { result ≡ Status.Usage → IsSomeCommand (texts words.now) → ⊥ }
+    ensures not_command { (IsSomeCommand (texts words.now) → ⊥) → (result ≡ Status.Usage) ⊎ (result ≡ Status.OutFault) }
+    ensures script_fault { result ≡ Status.ScriptFault → Rose (W.faults world.old Part.Script) (W.faults world.new Part.Script) }
+    ensures out_fault { result ≡ Status.OutFault → Rose (W.faults world.old Part.Out) (W.faults world.new Part.Out) }
+    ensures device { (side : Named) → result ≡ Status.Device side → Rose (W.faults world.old (part_of side)) (W.faults world.new (part_of side)) }
+    ensures never_less { NeverLess (W.faults world.old) (W.faults world.new) }
+{
     one_outcome();
+    volume_sides_read_as_one();
+    plain_where_fits();
+    plain_is_history();
     let Some(command) = read_words(words) else {
         return say_last(world, USAGE, Status::Usage);
     };

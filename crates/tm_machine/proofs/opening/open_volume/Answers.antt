@@ -6,7 +6,7 @@ use Rattle.tm_world.specs.declared.world.Side.TheVariants.{Volume as VolumeSide}
 use Rattle.tm_world.specs.Torn.{as_read}
 use Rattle.tm_volume.specs.Seen.{stored_on}
 use Rattle.tm_volume.specs.Stored.{StoredVolume, reopened}
-use Rattle.tm_machine.proofs.OpeningLemmas.{loads_nothing, loads_volume, opened_as, no_volume, any_steps, any_then, unformatted_now, small_side, volume_opens, unformatted_opens}
+use Rattle.tm_machine.proofs.OpeningLemmas.{loads_nothing, loads_volume, opened_as, no_volume, any_steps, any_then, unformatted_now, small_side, stands_formatted, volume_opens, unformatted_opens}
 use Rattle.tm_machine.proofs.opening.open_volume.Goals as goal
 
 pub returns-in-Ok-begin_generation-clause-any_moment : goal.returns-in-Ok-begin_generation-clause-any_moment
@@ -85,3 +85,27 @@ returns-in-Err-Unformatted-clause-opens g c told =
     let d = disk VolumeSide (now (g.W.World.log c.args.world.now)) in
     let many = g.met.W.World.counts told c.args.world.now VolumeSide ∙ c.requires.count in
     unformatted_opens (as_read d) (unformatted_now d c.args.blocks many (c.in-Err-Unformatted.ensures.unformatted told (ap Err c.in-Err-Unformatted.field-0-is)))
+
+pub returns-in-Ok-begin_generation-clause-blank : goal.returns-in-Ok-begin_generation-clause-blank
+returns-in-Ok-begin_generation-clause-blank g c told reads =
+    let old = g.W.World.log c.args.world.now in
+    absurd (stands_formatted c.sides_read_as_one.ensures c.standing_volume_is_left.ensures c.in-Ok.volume c.args.blocks old (g.W.World.log c.load.new.world)
+    (small_side (disk VolumeSide (now old)) (g.W.World.blocks c.args.world.now VolumeSide) c.args.blocks (g.met.W.World.counts told c.args.world.now VolumeSide) c.requires.count c.requires.small)
+    (c.load.ensures.steps told) c.begin_generation.ensures.kept.0 c.in-Ok.ensures.ready (c.in-Ok.ensures.stands told) reads)
+
+pub returns-in-Err-clause-blank : goal.returns-in-Err-clause-blank
+returns-in-Err-clause-blank g c told reads =
+    let old = g.W.World.log c.args.world.now in
+    absurd (stands_formatted c.sides_read_as_one.ensures c.standing_volume_is_left.ensures c.in-Ok.volume c.args.blocks old (g.W.World.log c.load.new.world)
+    (small_side (disk VolumeSide (now old)) (g.W.World.blocks c.args.world.now VolumeSide) c.args.blocks (g.met.W.World.counts told c.args.world.now VolumeSide) c.requires.count c.requires.small)
+    (c.load.ensures.steps told) c.begin_generation.ensures.kept.0 c.in-Ok.ensures.ready (c.in-Ok.ensures.stands told) reads)
+
+pub returns-in-Ok-begin_generation-clause-shut : goal.returns-in-Ok-begin_generation-clause-shut
+returns-in-Ok-begin_generation-clause-shut g c told shut =
+    absurd (shut (volume_opens c.standing_volume_is_left.ensures c.in-Ok.volume c.args.blocks (disk VolumeSide (now (g.W.World.log c.args.world.now))) c.begin_generation.ensures.kept.0
+    c.in-Ok.ensures.ready (c.in-Ok.ensures.stands told) c.in-Ok.ensures.unspent))
+
+pub returns-in-Err-clause-shut : goal.returns-in-Err-clause-shut
+returns-in-Err-clause-shut g c told shut =
+    absurd (shut (volume_opens c.standing_volume_is_left.ensures c.in-Ok.volume c.args.blocks (disk VolumeSide (now (g.W.World.log c.args.world.now))) c.begin_generation.ensures.kept.0
+    c.in-Ok.ensures.ready (c.in-Ok.ensures.stands told) c.in-Ok.ensures.unspent))

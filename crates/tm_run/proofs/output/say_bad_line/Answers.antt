@@ -1,8 +1,7 @@
 use Rattle.std.proofs.Common.{List, ℕ, subst, ◌∙◌}
 use Rattle.tm_world.specs.Log.{now, Passes}
-use Rattle.tm_run.specs.Ends.{SaysPrefix}
+use Rattle.tm_run.specs.Ends.{SaysPrefix, Speaks}
 use Rattle.tm_run.specs.Outcomes.{bad_line}
-use Rattle.tm_run.specs.Stops.{Speaks}
 use Rattle.tm_run.proofs.output.say_bad_line.Goals as goal
 
 pub returns-in-Ok-clause-cut : goal.returns-in-Ok-clause-cut

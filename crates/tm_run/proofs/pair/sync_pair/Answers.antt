@@ -1,9 +1,12 @@
-use Rattle.std.proofs.Common.{ap, ◌∙◌}
+use Rattle.std.proofs.Common.{ap, sym, subst, ◌∙◌}
+use Rattle.tm_world.specs.Disk.{synced}
 use Rattle.tm_world.specs.Log.{now}
-use Rattle.tm_world.specs.Outside.{Outside}
-use Rattle.tm_run.proofs.PairLemmas.{pair_synced, said_put}
+use Rattle.tm_world.specs.Outside.{Outside, disk, put_disk}
 use Rattle.tm_world.specs.declared.world.Side.TheVariants.{Volume as VolumeSide, Store as StoreSide}
-use Rattle.tm_run.proofs.UntouchedLemmas.{moments_then, same_steps, steps_untouched, synced_untouched}
+use Rattle.tm_world.proofs.Going.{Passes-then}
+use Rattle.tm_run.specs.Moments.{IsFinding}
+use Rattle.tm_run.proofs.FindingLemmas.{finding_steps, finding_then, store_synced_at, sync_store, sync_volume, volume_synced_at}
+use Rattle.tm_run.proofs.PairLemmas.{pair_synced, said_put}
 use Rattle.tm_run.proofs.pair.sync_pair.Goals as goal
 
 pub returns-in-Ok-sync-clause-pair : goal.returns-in-Ok-sync-clause-pair
@@ -21,19 +24,35 @@ returns-in-Err-sync-clause-said g c told =
     ∙ ap (λ (s : Outside). s.said) (c.in-Ok.ensures.ok told).ends ∙ (said_put (now (g.W.World.log c.args.world.now)) _).0
 
 pub returns-in-Err-clause-any_moment : goal.returns-in-Err-clause-any_moment
-returns-in-Err-clause-any_moment g c told = same_steps (g.W.World.log c.args.world.now) (g.W.World.log c.sync.new.self) (c.in-Err.ensures.err told)
+returns-in-Err-clause-any_moment g c told p q create start at =
+    let old = g.W.World.log c.args.world.now in
+    finding_steps p q create start old (g.W.World.log c.sync.new.self) (now old) (c.in-Err.ensures.err told) at.found
 
 pub returns-in-Err-sync-clause-any_moment : goal.returns-in-Err-sync-clause-any_moment
-returns-in-Err-sync-clause-any_moment g c told =
+returns-in-Err-sync-clause-any_moment g c told p q create start at =
     let old = g.W.World.log c.args.world.now in
     let mid = g.W.World.log c.sync.new.self in
     let new = g.W.World.log c.sync-2.new.self in
-    moments_then old mid new (steps_untouched old mid _ (c.in-Ok.ensures.ok told) (synced_untouched VolumeSide (now old))) (same_steps mid new (c.in-Err-sync.ensures.err told))
+    let after = put_disk VolumeSide (synced (disk VolumeSide (now old))) (now old) in
+    let fine = finding_then p q create start (now old) after at.found (sync_volume p q create start (now old) at) in
+    Passes-then old mid new (IsFinding p q create start) (finding_steps p q create start old mid after (c.in-Ok.ensures.ok told) fine)
+    (finding_steps p q create start mid new (now mid) (c.in-Err-sync.ensures.err told) (subst (IsFinding p q create start) (sym (c.in-Ok.ensures.ok told).ends) fine))
 
 pub returns-in-Ok-sync-clause-any_moment : goal.returns-in-Ok-sync-clause-any_moment
-returns-in-Ok-sync-clause-any_moment g c told =
+returns-in-Ok-sync-clause-any_moment g c told p q create start at =
     let old = g.W.World.log c.args.world.now in
     let mid = g.W.World.log c.sync.new.self in
     let new = g.W.World.log c.sync-2.new.self in
-    moments_then old mid new (steps_untouched old mid _ (c.in-Ok.ensures.ok told) (synced_untouched VolumeSide (now old)))
-    (steps_untouched mid new _ (c.in-Ok-sync.ensures.ok told) (synced_untouched StoreSide (now mid)))
+    let after = put_disk VolumeSide (synced (disk VolumeSide (now old))) (now old) in
+    let fine = finding_then p q create start (now old) after at.found (sync_volume p q create start (now old) at) in
+    let mid_at = volume_synced_at p q create start (now old) (now mid) at (c.in-Ok.ensures.ok told).ends in
+    Passes-then old mid new (IsFinding p q create start) (finding_steps p q create start old mid after (c.in-Ok.ensures.ok told) fine)
+    (finding_steps p q create start mid new _ (c.in-Ok-sync.ensures.ok told) (finding_then p q create start (now mid) (put_disk StoreSide (synced (disk StoreSide (now mid))) (now mid)) mid_at.found (sync_store p q create start (now mid) mid_at)))
+
+pub returns-in-Ok-sync-clause-attached : goal.returns-in-Ok-sync-clause-attached
+returns-in-Ok-sync-clause-attached g c told p q create start at =
+    let old = g.W.World.log c.args.world.now in
+    let mid = g.W.World.log c.sync.new.self in
+    let new = g.W.World.log c.sync-2.new.self in
+    let mid_at = volume_synced_at p q create start (now old) (now mid) at (c.in-Ok.ensures.ok told).ends in
+    store_synced_at p q create start (now mid) (now new) mid_at (c.in-Ok-sync.ensures.ok told).ends

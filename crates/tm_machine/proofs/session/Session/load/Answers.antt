@@ -5,14 +5,15 @@ use Rattle.tm_world.specs.Disk.{Disk}
 use Rattle.tm_world.specs.Log.{now}
 use Rattle.tm_world.specs.Torn.{as_read}
 use Rattle.tm_world.specs.declared.world.Side.TheVariants.{Volume as VolumeSide}
+use Rattle.tm_world.proofs.Going.{Steps-then}
 use Rattle.tm_world.proofs.Pairs.{Runs-ends}
 use Rattle.tm_machine.specs.Stops.{CanOpenStore}
-use Rattle.tm_machine.proofs.OpeningLemmas.{bad_store, bad_volume, opened_standing, opened_state, opening_moments, opening_reads, other_side, said_as_before}
+use Rattle.tm_machine.proofs.OpeningLemmas.{bad_store, bad_volume, begun_moments, begun_then, opening_alone, opening_alone_then, opened_standing, opened_state, opening_moments, opening_reads, other_side, said_as_before}
 use Rattle.tm_machine.proofs.session.Session.load.Goals as goal
 
 pub returns-in-Err-clause-any_moment : goal.returns-in-Err-clause-any_moment
 returns-in-Err-clause-any_moment g c told r reads =
-    opening_moments r (g.W.World.log c.args.world.now) (g.W.World.log c.open_volume.new.world) (c.requires.settled told) reads (c.open_volume.ensures.any_moment told r.volume reads.volume_reads)
+    opening_moments r (g.W.World.log c.args.world.now) (g.W.World.log c.open_volume.new.world) (c.requires.settled told) reads (c.open_volume.ensures.blank told) (c.open_volume.ensures.any_moment told r.volume reads.volume_reads)
 
 pub returns-in-Err-clause-said : goal.returns-in-Err-clause-said
 returns-in-Err-clause-said g c told =
@@ -32,7 +33,7 @@ open_store-requires-clause-stable g c told =
 pub returns-in-Err-open_store-clause-any_moment : goal.returns-in-Err-open_store-clause-any_moment
 returns-in-Err-open_store-clause-any_moment g c told r reads =
     opening_reads r (g.W.World.log c.args.world.now) (g.W.World.log c.open_volume.new.world) (g.W.World.log c.open_store.new.world) (c.requires.settled told) reads
-    (c.open_volume.ensures.any_moment told r.volume reads.volume_reads) (c.open_store.ensures.steps told)
+    (c.open_volume.ensures.blank told) (c.open_volume.ensures.any_moment told r.volume reads.volume_reads) (c.open_store.ensures.steps told)
 
 pub returns-in-Err-open_store-clause-said : goal.returns-in-Err-open_store-clause-said
 returns-in-Err-open_store-clause-said g c told =
@@ -61,7 +62,7 @@ returns-clause-state g c told r reads =
 pub returns-clause-any_moment : goal.returns-clause-any_moment
 returns-clause-any_moment g c told r reads =
     opening_reads r (g.W.World.log c.args.world.now) (g.W.World.log c.open_volume.new.world) (g.W.World.log c.open_store.new.world) (c.requires.settled told) reads
-    (c.open_volume.ensures.any_moment told r.volume reads.volume_reads) (c.open_store.ensures.steps told)
+    (c.open_volume.ensures.blank told) (c.open_volume.ensures.any_moment told r.volume reads.volume_reads) (c.open_store.ensures.steps told)
 
 pub returns-clause-opens : goal.returns-clause-opens
 returns-clause-opens g c told = (
@@ -80,3 +81,41 @@ returns-clause-standing g c told =
 pub returns-clause-said : goal.returns-clause-said
 returns-clause-said g c told =
     said_as_before (g.W.World.log c.args.world.now) (g.W.World.log c.open_volume.new.world) (g.W.World.log c.open_store.new.world) (c.requires.settled told).apart (c.open_volume.ensures.alone told) (c.open_store.ensures.steps told)
+
+pub returns-in-Err-clause-alone : goal.returns-in-Err-clause-alone
+returns-in-Err-clause-alone g c told =
+    opening_alone (g.W.World.log c.args.world.now) (g.W.World.log c.open_volume.new.world) (c.requires.settled told).apart (c.open_volume.ensures.alone told)
+
+pub returns-in-Err-open_store-clause-alone : goal.returns-in-Err-open_store-clause-alone
+returns-in-Err-open_store-clause-alone g c told =
+    opening_alone_then (g.W.World.log c.args.world.now) (g.W.World.log c.open_volume.new.world) (g.W.World.log c.open_store.new.world) (c.requires.settled told).apart (c.open_volume.ensures.alone told) (c.open_store.ensures.steps told)
+
+pub returns-clause-alone : goal.returns-clause-alone
+returns-clause-alone g c told =
+    opening_alone_then (g.W.World.log c.args.world.now) (g.W.World.log c.open_volume.new.world) (g.W.World.log c.open_store.new.world) (c.requires.settled told).apart (c.open_volume.ensures.alone told) (c.open_store.ensures.steps told)
+
+pub returns-in-Err-clause-begun : goal.returns-in-Err-clause-begun
+returns-in-Err-clause-begun g c told v reads =
+    begun_moments v (g.W.World.log c.args.world.now) (g.W.World.log c.open_volume.new.world) (c.requires.settled told).apart (c.open_volume.ensures.any_moment told v reads)
+
+pub returns-in-Err-open_store-clause-begun : goal.returns-in-Err-open_store-clause-begun
+returns-in-Err-open_store-clause-begun g c told v reads =
+    begun_then v (g.W.World.log c.args.world.now) (g.W.World.log c.open_volume.new.world) (g.W.World.log c.open_store.new.world) (c.requires.settled told) reads (c.open_volume.ensures.any_moment told v reads) (c.open_store.ensures.steps told)
+
+pub returns-clause-begun : goal.returns-clause-begun
+returns-clause-begun g c told v reads =
+    begun_then v (g.W.World.log c.args.world.now) (g.W.World.log c.open_volume.new.world) (g.W.World.log c.open_store.new.world) (c.requires.settled told) reads (c.open_volume.ensures.any_moment told v reads) (c.open_store.ensures.steps told)
+
+pub returns-in-Err-open_store-clause-blank : goal.returns-in-Err-open_store-clause-blank
+returns-in-Err-open_store-clause-blank g c told none =
+    Steps-then (g.W.World.log c.args.world.now) (g.W.World.log c.open_volume.new.world) (g.W.World.log c.open_store.new.world) (c.open_volume.ensures.blank told none) (c.open_store.ensures.steps told)
+
+pub returns-clause-blank : goal.returns-clause-blank
+returns-clause-blank g c told none =
+    Steps-then (g.W.World.log c.args.world.now) (g.W.World.log c.open_volume.new.world) (g.W.World.log c.open_store.new.world) (c.open_volume.ensures.blank told none) (c.open_store.ensures.steps told)
+
+pub returns-in-Err-open_store-clause-shut : goal.returns-in-Err-open_store-clause-shut
+returns-in-Err-open_store-clause-shut g c told shut = absurd (shut (c.in-Ok.ensures.opens told))
+
+pub returns-clause-shut : goal.returns-clause-shut
+returns-clause-shut g c told shut = absurd (shut (c.in-Ok.ensures.opens told))
