@@ -71,7 +71,12 @@ fn new_world(alloc: Global, images: Images) -> Result<MemWorld, Memory> {
 }
 
 // Runs a script over a world.
-fn run_script(alloc: Global, words: &[String], world: &mut MemWorld, script: &str) -> Result<(), AllocError> {
+fn run_script(
+    alloc: Global,
+    words: &[String],
+    world: &mut MemWorld,
+    script: &str,
+) -> Result<(), AllocError> {
     match world.put_script("p", script.as_bytes()) {
         Ok(()) => {
             let _ = run(alloc, words, world);
