@@ -1,4 +1,6 @@
 //! An example: scripts that run one after the other over the same images, and their replies.
+ghost use Rattle.std.specs.Prelude.{◌≤◌};
+
 use std::alloc::{AllocError, Global};
 use std::io;
 use tm_memworld::{MemWorld, Memory};
@@ -17,8 +19,10 @@ pub(crate) enum Images {
 }
 
 impl Images {
-    /// How many blocks the store has.
-    fn store_blocks(self) -> u32 {
+    // How many blocks the store has.
+    fn store_blocks(self) -> u32
+        ensures { result ≤ 262144 }
+    {
         match self {
             Images::Usual => 64,
             Images::SmallStore => 8,
