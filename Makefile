@@ -1,13 +1,22 @@
-.PHONY: demo test
+.PHONY: demo build test examples bench
 
-# Builds the program, and runs two scripts on the same images in a new folder. What the build says
-# goes to a file there, and is shown where a run ends with another status than 0.
+# Builds the program without its proofs, and shows a script with its replies: about a minute.
 demo:
-	@folder=$$(mktemp -d) && cp examples/first.tm examples/second.tm $$folder && cd crates/tmvol && \
-	for script in first second; do \
-		rt run -- --volume $$folder/v.img --store $$folder/s.img --script $$folder/$$script.tm --create 64 2> $$folder/build.log || \
-		{ status=$$?; tail -n 40 $$folder/build.log >&2; exit $$status; }; \
-	done
+	@tools/demo
 
+# Proves and builds the program on all processors, and says where it then stands.
+build:
+	@tools/build
+
+# The gate: every proof, test, must-fail edit and program run of the repository.
 test:
+	@tools/examples --only-copies
 	bash .ci/run
+
+# Runs every example of the documents, without proofs: about a minute.
+examples:
+	@tools/examples
+
+# Measures the program beside sqlite3, rsync, cp, borg and restic.
+bench:
+	@bench/run
