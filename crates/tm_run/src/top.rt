@@ -88,7 +88,7 @@ pub fn run<W: World>(alloc: Global, words: &[String], world: &mut W) -> Status
     run_words(alloc, words, world)
 }
 
-// The same, of what every history and every image tell.
+// What `run` does. What `run` says besides, `left` and `any_moment`, follows from `history`.
 fn run_words<W: World>(alloc: Global, words: &[String], world: &mut W) -> Status
     ensures history { W.told → RunsOver (texts words.now) (W.log world.old) (W.log world.new) result }
     ensures outcome { W.told → FitsStart (texts words.now) (now (W.log world.old)) → IsWhole result → GaveOutcome (texts words.now) (now (W.log world.old)) (now (W.log world.new)) result }
