@@ -22,6 +22,8 @@ mod refusals;
 #[cfg(test)]
 mod reloaded;
 #[cfg(test)]
+mod rows;
+#[cfg(test)]
 mod scripts;
 #[cfg(test)]
 mod sharing;
