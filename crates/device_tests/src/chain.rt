@@ -2,10 +2,10 @@
 ghost use Rattle.std.specs.Prelude.{◌≡◌, ◌≢◌, ◌<◌, ℕ, length, slice_index};
 ghost use Rattle.tm_blockmap.specs.Counts.{IsDistinct};
 
-use crate::volume::{attach, change, read_block, zeros};
 use std::alloc::Global;
 use std::test::Fail;
 use tm_chain::{Chain, ChainError, read_blob, read_chain, write_blob, write_chain};
+use tm_testing::{attach, change, read_block, zeros};
 use tm_world::{Failed, Side, World};
 
 /// Two different blocks of an image of so many.
@@ -22,7 +22,7 @@ fn pair(first: u32, second: u32, total: u32) -> [u32; 2]
 
 /// Attaches the volume and writes a text of two blocks, 4,093 to 8,184 bytes.
 fn write_text<W: World>(world: &mut W, text: &[u8], first: u32, second: u32) -> Result<(), Failed> {
-    let total = attach(world)?;
+    let total = attach(world, Side::Volume)?;
     if first >= total || second >= total || first == second {
         return Err(Failed);
     }
@@ -39,7 +39,7 @@ fn read_text<W: World>(
     first: u32,
     len: u64,
 ) -> Result<Chain, ChainError> {
-    let total = attach(world)?;
+    let total = attach(world, Side::Volume)?;
     if first < 3 || first >= total || len == 0 {
         return Err(ChainError::Fault);
     }
@@ -53,7 +53,7 @@ fn write_bytes<W: World>(
     first: u32,
     second: u32,
 ) -> Result<(), Failed> {
-    let total = attach(world)?;
+    let total = attach(world, Side::Volume)?;
     if first >= total || second >= total || first == second {
         return Err(Failed);
     }
@@ -71,7 +71,7 @@ fn read_bytes<W: World>(
     at: u64,
     into: &mut [u8],
 ) -> Result<(), Failed> {
-    let total = attach(world)?;
+    let total = attach(world, Side::Volume)?;
     if first >= total || second >= total || first == second {
         return Err(Failed);
     }
@@ -104,10 +104,10 @@ fn a_text_on_blocks_3_and_5(rt: HostRuntime) -> Result<(), Fail> {
     let text = text();
     let mut world = zeros(rt.alloc(), 8)?;
     write_text(&mut world, &text, 3, 5)?;
-    let front = read_block(&mut world, 3)?;
+    let front = read_block(&mut world, Side::Volume, 3)?;
     assert!(rt; front.starts_with(b"\0\0\0\x05\x07"));
     assert_eq!(rt; front[4095], 7);
-    let last = read_block(&mut world, 5)?;
+    let last = read_block(&mut world, Side::Volume, 5)?;
     assert!(rt; last.starts_with(b"\0\0\0\0\x08"));
     assert!(rt; last.iter().skip(5).all(|byte| *byte == 0));
     let chain = read_text(rt.alloc(), &mut world, 3, 4093)?;
@@ -145,7 +145,7 @@ fn bad_chains(rt: HostRuntime) -> Result<(), Fail> {
     ] {
         let mut world = zeros(rt.alloc(), 8)?;
         write_text(&mut world, &text, 3, 5)?;
-        change(&mut world, block, at, byte)?;
+        change(&mut world, Side::Volume, block, at, &[byte])?;
         assert_eq!(rt;
             read_text(rt.alloc(), &mut world, 3, len).err(),
             bad.map(ChainError::BadChain),
@@ -163,8 +163,8 @@ fn chain_calls_that_fail(rt: HostRuntime) -> Result<(), Fail> {
         let mut world = zeros(rt.alloc(), 8)?;
         world.fail_at(&[call])?;
         assert_eq!(rt; write_text(&mut world, &text, 3, 5), Err(Failed));
-        assert_eq!(rt; read_block(&mut world, 3)?[3], next);
-        assert_eq!(rt; read_block(&mut world, 5)?[4], 0);
+        assert_eq!(rt; read_block(&mut world, Side::Volume, 3)?[3], next);
+        assert_eq!(rt; read_block(&mut world, Side::Volume, 5)?[4], 0);
     }
     // Of the two reads one fails.
     for call in [4, 5] {
@@ -182,8 +182,8 @@ fn bytes_on_blocks_5_and_3(rt: HostRuntime) -> Result<(), Fail> {
     let bytes = bytes();
     let mut world = zeros(rt.alloc(), 8)?;
     write_bytes(&mut world, &bytes, 5, 3)?;
-    assert_eq!(rt; read_block(&mut world, 5)?[0], 10);
-    let last = read_block(&mut world, 3)?;
+    assert_eq!(rt; read_block(&mut world, Side::Volume, 5)?[0], 10);
+    let last = read_block(&mut world, Side::Volume, 3)?;
     assert_eq!(rt; (last[0], last[99]), (12, 13));
     assert!(rt; last.iter().skip(100).all(|byte| *byte == 0));
     let mut all = [0u8; 4196];
@@ -227,8 +227,8 @@ fn blob_calls_that_fail(rt: HostRuntime) -> Result<(), Fail> {
         let mut world = zeros(rt.alloc(), 8)?;
         world.fail_at(&[call])?;
         assert_eq!(rt; write_bytes(&mut world, &bytes, 5, 3), Err(Failed));
-        assert_eq!(rt; read_block(&mut world, 5)?[0], first);
-        assert_eq!(rt; read_block(&mut world, 3)?[0], 0);
+        assert_eq!(rt; read_block(&mut world, Side::Volume, 5)?[0], first);
+        assert_eq!(rt; read_block(&mut world, Side::Volume, 3)?[0], 0);
     }
     // Of the two reads one fails.
     for call in [4, 5] {

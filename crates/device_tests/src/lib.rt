@@ -7,5 +7,3 @@ mod chain;
 mod gate;
 #[cfg(test)]
 mod image;
-#[cfg(test)]
-mod volume;

@@ -1,13 +1,8 @@
 //! An example: scripts that run one after the other over the same images, and their replies.
-ghost use Rattle.std.specs.Prelude.{◌≤◌};
-
 use std::alloc::{AllocError, Global};
 use std::io;
-use tm_memworld::{MemWorld, Memory};
-use tm_run::run;
-
-/// The words of the command, as the documents give them.
-const COMMAND: [&str; 6] = ["--volume", "v", "--store", "s", "--script", "p"];
+use tm_run_testing::{run_next, said};
+use tm_testing::pair;
 
 /// The images of an example, which are new.
 #[derive(Clone, Copy, Debug, PartialEq, Eq)]
@@ -20,9 +15,7 @@ pub(crate) enum Images {
 
 impl Images {
     // How many blocks the store has.
-    fn store_blocks(self) -> u32
-        ensures { result ≤ 262144 }
-    {
+    fn store_blocks(self) -> u32 {
         match self {
             Images::Usual => 64,
             Images::SmallStore => 8,
@@ -65,45 +58,11 @@ impl Example {
     }
 }
 
-// A world with new images.
-fn new_world(alloc: Global, images: Images) -> Result<MemWorld, Memory> {
-    let mut world = MemWorld::new(alloc)?;
-    world.put_image("v", 64)?;
-    world.put_image("s", images.store_blocks())?;
-    world.room(100_000, 20_000, 1_000_000)?;
-    Ok(world)
-}
-
-// Runs a script over a world.
-fn run_script(
-    alloc: Global,
-    words: &[String],
-    world: &mut MemWorld,
-    script: &str,
-) -> Result<(), AllocError> {
-    match world.put_script("p", script.as_bytes()) {
-        Ok(()) => {
-            let _ = run(alloc, words, world);
-            Ok(())
-        }
-        Err(Memory) => Err(AllocError),
-    }
-}
-
 /// What the program says to an example.
 pub(crate) fn says(alloc: Global, example: &Example) -> io::Result<String> {
-    let mut words = Vec::new(alloc);
-    for word in COMMAND {
-        words.push(String::from_str(alloc, word)?)?;
-    }
-    let Ok(mut world) = new_world(alloc, example.images) else {
-        return Err(io::Error::from(AllocError));
-    };
+    let mut world = pair(alloc, 64, example.images.store_blocks()).or(Err(AllocError))?;
     for script in example.scripts() {
-        run_script(alloc, words.as_slice(), &mut world, script.as_str())?;
+        run_next(alloc, &mut world, script.as_str())?;
     }
-    match str::from_utf8(world.said()) {
-        Ok(said) => Ok(String::from_str(alloc, said)?),
-        Err(_) => Err(io::Error::from(io::ErrorKind::InvalidData)),
-    }
+    Ok(String::from_str(alloc, said(&world))?)
 }

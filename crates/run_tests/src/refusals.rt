@@ -1,35 +1,30 @@
 //! Each line with each refusal that it can have in one run.
 
+use tm_run_testing::{FORMAT_BOTH, FORMAT_VOLUME};
+
+/// The lines that format images, and others after them.
+type Before = (&'static str, &'static str);
+
 /// Nothing is formatted.
-const NOTHING: &str = "";
+const NOTHING: Before = ("", "");
 
 /// A volume with a folder, two files and a link, and no store.
-const ITEMS: &str = "\
-at 2009-03-02-090000\n\
-newvolume HD 6ba7b810-9dad-11d1-80b4-00c04fd430c8 1000\n\
-mkdir /a\n\
-write /a/g x\n\
-write /f x\n\
-ln /l f\n";
+const ITEMS: Before = (
+    FORMAT_VOLUME,
+    "mkdir /a\nwrite /a/g x\nwrite /f x\nln /l f\n",
+);
 
 /// A volume with nothing in it.
-const VOLUME: &str = "\
-at 2009-03-02-090000\n\
-newvolume HD 6ba7b810-9dad-11d1-80b4-00c04fd430c8 1000\n";
+const VOLUME: Before = (FORMAT_VOLUME, "");
 
 /// A store without a snapshot.
-const STORE: &str = "newstore Mac\n";
+const STORE: Before = ("", "newstore Mac\n");
 
 /// A volume and a store with a snapshot of it.
-const SNAPSHOT: &str = "\
-at 2009-03-02-090000\n\
-newvolume HD 6ba7b810-9dad-11d1-80b4-00c04fd430c8 1000\n\
-newstore Mac\n\
-write /f x\n\
-tmutil startbackup --block\n";
+const SNAPSHOT: Before = (FORMAT_BOTH, "write /f x\ntmutil startbackup --block\n");
 
 /// The lines before, lines of which each is refused after them, and the text of that refusal.
-pub(crate) const REFUSALS: [(&str, &[&str], &str); 23] = [
+pub(crate) const REFUSALS: [(Before, &[&str], &str); 23] = [
     // Before anything is formatted.
     (
         NOTHING,

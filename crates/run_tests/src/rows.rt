@@ -1,21 +1,16 @@
 //! Runs in a row: over images that are not what they were thought to be, and with stops between them.
-ghost use Rattle.std.specs.Prelude.{◌≡◌, ◌≢◌};
-ghost use Rattle.tm_world.specs.Outside.{part_of};
-
-use crate::images::run_next;
-use crate::pairs::pair;
-use crate::tests::{COMMAND, words};
-use std::alloc::Global;
+use std::alloc::{AllocError, Global};
 use std::test::Fail;
 use tm_memworld::MemWorld;
 use tm_run::{Status, run};
-use tm_world::{Failed, Part, Side, World};
+use tm_run_testing::{
+    COMMAND, FORMAT_BOTH, Stop, joined, run_next, run_with, said, stops_after, words,
+};
+use tm_testing::{pair, write_block};
+use tm_world::Side;
 
-/// The first run: a volume of one file, and its first backup.
+/// The first run, over a new volume and a new store: a file, and its first backup.
 const MONDAY: &str = "\
-at 2009-03-02-090000\n\
-newvolume HD 6ba7b810-9dad-11d1-80b4-00c04fd430c8 1000\n\
-newstore Mac\n\
 write /f one\n\
 tmutil startbackup --block\n";
 
@@ -130,47 +125,30 @@ ok\n";
 #[test]
 fn an_old_copy_of_the_volume_loses_no_snapshot(rt: HostRuntime) -> Result<(), Fail> {
     let alloc = rt.alloc();
-    let mut world = pair(alloc, 64)?;
+    let mut world = pair(alloc, 64, 64)?;
+    world.put_image("w", 64)?;
     world.put_image("t", 64)?;
     // The same lines make the same volume: what stands at `w` is a copy of `v` as it was on Monday.
-    run_next(alloc, &mut world, &COPYING, MONDAY)?;
-    run_next(alloc, &mut world, &COMMAND, MONDAY)?;
-    run_next(alloc, &mut world, &COMMAND, TUESDAY)?;
+    let monday = joined(alloc, FORMAT_BOTH, MONDAY)?;
+    run_with(alloc, &mut world, &COPYING, &monday)?;
+    run_next(alloc, &mut world, &monday)?;
+    run_next(alloc, &mut world, TUESDAY)?;
     world.stop(&[0u8; 4096]);
-    let ended = run_next(alloc, &mut world, &OLD_COPY, EACH_LINE)?;
-    assert_eq!(rt; str::from_utf8(world.said())?, EACH_LINE_SAYS);
+    let ended = run_with(alloc, &mut world, &OLD_COPY, EACH_LINE)?;
+    assert_eq!(rt; said(&world), EACH_LINE_SAYS);
     assert_eq!(rt; ended, Status::DoneRefused);
     Ok(())
 }
 
-/// How many replies of the second run were said.
-fn replies_in(said: &str) -> usize {
-    let mut rest = said;
-    let mut count = 0usize;
-    for reply in TUESDAY_SAYS {
-        match rest.strip_prefix(reply) {
-            Some(after) => {
-                rest = after;
-                count = count.saturating_add(1);
-            }
-            None => return count,
-        }
-    }
-    count
-}
-
 /// Three runs in a row, of which the second is stopped at a call, with stops between them. Whether
 /// the second was whole, and whether the third reads what the second may have left.
-fn three_runs(alloc: Global, call: u64, byte: u8) -> Result<(bool, bool), Fail> {
-    let mut world = pair(alloc, 64)?;
-    run_next(alloc, &mut world, &COMMAND, MONDAY)?;
-    world.stop(&[byte; 4096]);
-    world.fuse(call);
-    let ended = run_next(alloc, &mut world, &COMMAND, TUESDAY)?;
-    let replies = replies_in(str::from_utf8(world.said())?);
-    world.stop(&[byte; 4096]);
-    run_next(alloc, &mut world, &COMMAND, ASKS)?;
-    let said = str::from_utf8(world.said())?;
+fn three_runs(alloc: Global, monday: &str, stop: Stop) -> Result<(bool, bool), AllocError> {
+    let mut world = pair(alloc, 64, 64).or(Err(AllocError))?;
+    run_next(alloc, &mut world, monday)?;
+    world.stop(&[stop.byte; 4096]);
+    let (ended, replies) = stops_after(alloc, &mut world, TUESDAY, &TUESDAY_SAYS, stop)?;
+    run_next(alloc, &mut world, ASKS)?;
+    let said = said(&world);
     let is_one_of = match replies {
         0 | 1 => said == ONE,
         2 => said == ONE || said == TWO,
@@ -181,13 +159,14 @@ fn three_runs(alloc: Global, call: u64, byte: u8) -> Result<(bool, bool), Fail> 
 
 #[test]
 fn three_runs_with_stops_between_them(rt: HostRuntime) -> Result<(), Fail> {
-    let alloc = rt.alloc();
+    let monday = joined(rt.alloc(), FORMAT_BOTH, MONDAY)?;
     let mut is_whole = false;
     for call in 0..1000 {
         if is_whole {
             break;
         }
-        let (whole, is_one_of) = three_runs(alloc, call, 0xff)?;
+        let stop = Stop { call, byte: 0xff };
+        let (whole, is_one_of) = three_runs(rt.alloc(), &monday, stop)?;
         assert!(rt; is_one_of, "call {call}");
         is_whole = whole;
     }
@@ -195,45 +174,26 @@ fn three_runs_with_stops_between_them(rt: HostRuntime) -> Result<(), Fail> {
     Ok(())
 }
 
-/// Puts a byte all over a block of an image.
-fn scribble<W: World>(
-    world: &mut W,
-    part: Part,
-    side: Side,
-    path: &str,
-    block: u32,
-    byte: u8,
-) -> Result<(), Failed>
-    requires part { part_of side ≡ part }
-    requires named { part ≢ Part.Out }
-{
-    if block >= world.attach(part, path, None)? {
-        return Err(Failed);
-    }
-    world.write(side, block, &[byte; 4096])?;
-    world.sync(side)
-}
-
 /// A pair of images of 64 blocks that no program here has made: noise stands in the selector, the
 /// slots, a block of data and the last block. Of no block more a write is taken.
 fn foreign(alloc: Global, byte: u8) -> Result<MemWorld, Fail> {
-    let mut world = pair(alloc, 64)?;
+    let mut world = pair(alloc, 64, 64)?;
     world.room(100, 10, 0)?;
     for block in [0, 1, 2, 3, 63] {
-        scribble(&mut world, Part::Volume, Side::Volume, "v", block, byte).or(Err("writes"))?;
-        scribble(&mut world, Part::Store, Side::Store, "s", block, byte).or(Err("writes"))?;
+        for side in [Side::Volume, Side::Store] {
+            write_block(&mut world, side, block, &[byte; 4096])?;
+        }
     }
     Ok(world)
 }
 
 #[test]
 fn foreign_images_are_not_written(rt: HostRuntime) -> Result<(), Fail> {
-    let alloc = rt.alloc();
-    let words = words(alloc, &COMMAND)?;
+    let words = words(rt.alloc(), &COMMAND)?;
     for byte in [1, 0xa5, 0xff] {
-        let mut world = foreign(alloc, byte)?;
+        let mut world = foreign(rt.alloc(), byte)?;
         world.put_script("p", b"")?;
-        assert_eq!(rt; run(alloc, &words, &mut world), Status::Done);
+        assert_eq!(rt; run(rt.alloc(), &words, &mut world), Status::Done);
         assert!(rt; world.said().is_empty());
     }
     Ok(())

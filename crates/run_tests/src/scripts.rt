@@ -1,11 +1,9 @@
 //! Scripts with what they say and how they end.
 use tm_run::Status;
+use tm_run_testing::{FORMAT_BOTH, FORMAT_VOLUME, Run};
 
 /// A file, a backup, and the file from the snapshot.
 pub(crate) const FIRST: &str = "\
-at 2009-03-02-090000\n\
-newvolume HD 6ba7b810-9dad-11d1-80b4-00c04fd430c8 1000\n\
-newstore Mac\n\
 write /f hello\n\
 tmutil startbackup --block\n\
 store cat /Backups.backupdb/Mac/2009-03-02-090000/HD/f\n";
@@ -13,22 +11,20 @@ store cat /Backups.backupdb/Mac/2009-03-02-090000/HD/f\n";
 /// What the first script says.
 pub(crate) const FIRST_SAYS: &str = "\
 ok\n\
-ok\n\
-ok\n\
-ok\n\
 finished 2009-03-02-090000 walked 1\n\
 ok\n\
 bytes 5 hello\n\
 ok\n";
 
-/// A script, what it says, and how it ends.
-pub(crate) const SCRIPTS: [(&str, &str, Status); 17] = [
+/// Scripts that each run over a new pair.
+pub(crate) const SCRIPTS: [Run; 16] = [
     // A file, a backup, and the file from the snapshot.
-    (FIRST, FIRST_SAYS, Status::Done),
+    (FORMAT_BOTH, FIRST, FIRST_SAYS, Status::Done),
     // An empty script says nothing.
-    ("", "", Status::Done),
+    ("", "", "", Status::Done),
     // Blanks and notes have no reply.
     (
+        "",
         "\
 \n\
    \n\
@@ -39,33 +35,23 @@ pub(crate) const SCRIPTS: [(&str, &str, Status); 17] = [
     ),
     // Without a backup there is no snapshot.
     (
+        FORMAT_BOTH,
         "\
-at 2009-03-02-090000\n\
-newvolume HD 6ba7b810-9dad-11d1-80b4-00c04fd430c8 1000\n\
-newstore Mac\n\
 write /f hello\n\
 store cat /Backups.backupdb/Mac/2009-03-02-090000/HD/f\n",
         "\
-ok\n\
-ok\n\
-ok\n\
 ok\n\
 refused 21 NoSnapshot\n",
         Status::DoneRefused,
     ),
     // A file that was written after the backup is not in its snapshot.
     (
+        FORMAT_BOTH,
         "\
-at 2009-03-02-090000\n\
-newvolume HD 6ba7b810-9dad-11d1-80b4-00c04fd430c8 1000\n\
-newstore Mac\n\
 tmutil startbackup --block\n\
 write /f hello\n\
 store cat /Backups.backupdb/Mac/Latest/HD/f\n",
         "\
-ok\n\
-ok\n\
-ok\n\
 finished 2009-03-02-090000 walked 1\n\
 ok\n\
 ok\n\
@@ -74,19 +60,14 @@ refused 5 NotFound\n",
     ),
     // What a file was at the backup stays in its snapshot.
     (
+        FORMAT_BOTH,
         "\
-at 2009-03-02-090000\n\
-newvolume HD 6ba7b810-9dad-11d1-80b4-00c04fd430c8 1000\n\
-newstore Mac\n\
 write /f hello\n\
 tmutil startbackup --block\n\
 write /f later\n\
 store cat /Backups.backupdb/Mac/Latest/HD/f\n\
 cat /f\n",
         "\
-ok\n\
-ok\n\
-ok\n\
 ok\n\
 finished 2009-03-02-090000 walked 1\n\
 ok\n\
@@ -99,16 +80,11 @@ ok\n",
     ),
     // The snapshot of an empty volume is its root.
     (
+        FORMAT_BOTH,
         "\
-at 2009-03-02-090000\n\
-newvolume HD 6ba7b810-9dad-11d1-80b4-00c04fd430c8 1000\n\
-newstore Mac\n\
 tmutil startbackup --block\n\
 store ls /Backups.backupdb/Mac/Latest/HD\n",
         "\
-ok\n\
-ok\n\
-ok\n\
 finished 2009-03-02-090000 walked 1\n\
 ok\n\
 folder 755 501 20 2009-03-02-090000 0 /\n\
@@ -117,16 +93,11 @@ ok\n",
     ),
     // A second backup needs a later date.
     (
+        FORMAT_BOTH,
         "\
-at 2009-03-02-090000\n\
-newvolume HD 6ba7b810-9dad-11d1-80b4-00c04fd430c8 1000\n\
-newstore Mac\n\
 tmutil startbackup --block\n\
 tmutil startbackup --block\n",
         "\
-ok\n\
-ok\n\
-ok\n\
 finished 2009-03-02-090000 walked 1\n\
 ok\n\
 refused 18 DateNotLater 2009-03-02-090000\n",
@@ -134,6 +105,7 @@ refused 18 DateNotLater 2009-03-02-090000\n",
     ),
     // The clock does not go back.
     (
+        "",
         "\
 at 2009-03-02-090000\n\
 at 2009-03-02-080000\n",
@@ -144,6 +116,7 @@ refused 20 ClockBack 2009-03-02-090000\n",
     ),
     // A bad line ends the run before its first line.
     (
+        "",
         "\
 at 2009-03-02-090000\n\
 frob\n",
@@ -152,10 +125,8 @@ frob\n",
     ),
     // What is refused on the root and by lengths.
     (
+        FORMAT_BOTH,
         "\
-at 2009-03-02-090000\n\
-newvolume HD 6ba7b810-9dad-11d1-80b4-00c04fd430c8 1000\n\
-newstore Mac\n\
 rmdir /\n\
 mkdir /\n\
 rm /\n\
@@ -165,9 +136,6 @@ mv / /x\n\
 rm /q\n\
 fill /f 16777217 0\n",
         "\
-ok\n\
-ok\n\
-ok\n\
 refused 14 RootItem\n\
 refused 6 Exists\n\
 refused 8 IsFolder\n\
@@ -178,156 +146,10 @@ refused 5 NotFound\n\
 refused 12 TooLong 16777217\n",
         Status::DoneRefused,
     ),
-    // A folder of 64 names does not go deeper.
-    (
-        "\
-at 2009-03-02-090000\n\
-newvolume HD 6ba7b810-9dad-11d1-80b4-00c04fd430c8 1000\n\
-newstore Mac\n\
-mkdir /a\n\
-mkdir /a/a\n\
-mkdir /a/a/a\n\
-mkdir /a/a/a/a\n\
-mkdir /a/a/a/a/a\n\
-mkdir /a/a/a/a/a/a\n\
-mkdir /a/a/a/a/a/a/a\n\
-mkdir /a/a/a/a/a/a/a/a\n\
-mkdir /a/a/a/a/a/a/a/a/a\n\
-mkdir /a/a/a/a/a/a/a/a/a/a\n\
-mkdir /a/a/a/a/a/a/a/a/a/a/a\n\
-mkdir /a/a/a/a/a/a/a/a/a/a/a/a\n\
-mkdir /a/a/a/a/a/a/a/a/a/a/a/a/a\n\
-mkdir /a/a/a/a/a/a/a/a/a/a/a/a/a/a\n\
-mkdir /a/a/a/a/a/a/a/a/a/a/a/a/a/a/a\n\
-mkdir /a/a/a/a/a/a/a/a/a/a/a/a/a/a/a/a\n\
-mkdir /a/a/a/a/a/a/a/a/a/a/a/a/a/a/a/a/a\n\
-mkdir /a/a/a/a/a/a/a/a/a/a/a/a/a/a/a/a/a/a\n\
-mkdir /a/a/a/a/a/a/a/a/a/a/a/a/a/a/a/a/a/a/a\n\
-mkdir /a/a/a/a/a/a/a/a/a/a/a/a/a/a/a/a/a/a/a/a\n\
-mkdir /a/a/a/a/a/a/a/a/a/a/a/a/a/a/a/a/a/a/a/a/a\n\
-mkdir /a/a/a/a/a/a/a/a/a/a/a/a/a/a/a/a/a/a/a/a/a/a\n\
-mkdir /a/a/a/a/a/a/a/a/a/a/a/a/a/a/a/a/a/a/a/a/a/a/a\n\
-mkdir /a/a/a/a/a/a/a/a/a/a/a/a/a/a/a/a/a/a/a/a/a/a/a/a\n\
-mkdir /a/a/a/a/a/a/a/a/a/a/a/a/a/a/a/a/a/a/a/a/a/a/a/a/a\n\
-mkdir /a/a/a/a/a/a/a/a/a/a/a/a/a/a/a/a/a/a/a/a/a/a/a/a/a/a\n\
-mkdir /a/a/a/a/a/a/a/a/a/a/a/a/a/a/a/a/a/a/a/a/a/a/a/a/a/a/a\n\
-mkdir /a/a/a/a/a/a/a/a/a/a/a/a/a/a/a/a/a/a/a/a/a/a/a/a/a/a/a/a\n\
-mkdir /a/a/a/a/a/a/a/a/a/a/a/a/a/a/a/a/a/a/a/a/a/a/a/a/a/a/a/a/a\n\
-mkdir /a/a/a/a/a/a/a/a/a/a/a/a/a/a/a/a/a/a/a/a/a/a/a/a/a/a/a/a/a/a\n\
-mkdir /a/a/a/a/a/a/a/a/a/a/a/a/a/a/a/a/a/a/a/a/a/a/a/a/a/a/a/a/a/a/a\n\
-mkdir /a/a/a/a/a/a/a/a/a/a/a/a/a/a/a/a/a/a/a/a/a/a/a/a/a/a/a/a/a/a/a/a\n\
-mkdir /a/a/a/a/a/a/a/a/a/a/a/a/a/a/a/a/a/a/a/a/a/a/a/a/a/a/a/a/a/a/a/a/a\n\
-mkdir /a/a/a/a/a/a/a/a/a/a/a/a/a/a/a/a/a/a/a/a/a/a/a/a/a/a/a/a/a/a/a/a/a/a\n\
-mkdir /a/a/a/a/a/a/a/a/a/a/a/a/a/a/a/a/a/a/a/a/a/a/a/a/a/a/a/a/a/a/a/a/a/a/a\n\
-mkdir /a/a/a/a/a/a/a/a/a/a/a/a/a/a/a/a/a/a/a/a/a/a/a/a/a/a/a/a/a/a/a/a/a/a/a/a\n\
-mkdir /a/a/a/a/a/a/a/a/a/a/a/a/a/a/a/a/a/a/a/a/a/a/a/a/a/a/a/a/a/a/a/a/a/a/a/a/a\n\
-mkdir /a/a/a/a/a/a/a/a/a/a/a/a/a/a/a/a/a/a/a/a/a/a/a/a/a/a/a/a/a/a/a/a/a/a/a/a/a/a\n\
-mkdir /a/a/a/a/a/a/a/a/a/a/a/a/a/a/a/a/a/a/a/a/a/a/a/a/a/a/a/a/a/a/a/a/a/a/a/a/a/a/a\n\
-mkdir /a/a/a/a/a/a/a/a/a/a/a/a/a/a/a/a/a/a/a/a/a/a/a/a/a/a/a/a/a/a/a/a/a/a/a/a/a/a/a/a\n\
-mkdir /a/a/a/a/a/a/a/a/a/a/a/a/a/a/a/a/a/a/a/a/a/a/a/a/a/a/a/a/a/a/a/a/a/a/a/a/a/a/a/a/a\n\
-mkdir /a/a/a/a/a/a/a/a/a/a/a/a/a/a/a/a/a/a/a/a/a/a/a/a/a/a/a/a/a/a/a/a/a/a/a/a/a/a/a/a/a/a\n\
-mkdir /a/a/a/a/a/a/a/a/a/a/a/a/a/a/a/a/a/a/a/a/a/a/a/a/a/a/a/a/a/a/a/a/a/a/a/a/a/a/a/a/a/a/a\n\
-mkdir /a/a/a/a/a/a/a/a/a/a/a/a/a/a/a/a/a/a/a/a/a/a/a/a/a/a/a/a/a/a/a/a/a/a/a/a/a/a/a/a/a/a/a/a\n\
-mkdir /a/a/a/a/a/a/a/a/a/a/a/a/a/a/a/a/a/a/a/a/a/a/a/a/a/a/a/a/a/a/a/a/a/a/a/a/a/a/a/a/a/a/a/a/a\n\
-mkdir /a/a/a/a/a/a/a/a/a/a/a/a/a/a/a/a/a/a/a/a/a/a/a/a/a/a/a/a/a/a/a/a/a/a/a/a/a/a/a/a/a/a/a/a/a/a\n\
-mkdir /a/a/a/a/a/a/a/a/a/a/a/a/a/a/a/a/a/a/a/a/a/a/a/a/a/a/a/a/a/a/a/a/a/a/a/a/a/a/a/a/a/a/a/a/a/a/a\n\
-mkdir /a/a/a/a/a/a/a/a/a/a/a/a/a/a/a/a/a/a/a/a/a/a/a/a/a/a/a/a/a/a/a/a/a/a/a/a/a/a/a/a/a/a/a/a/a/a/a/a\n\
-mkdir /a/a/a/a/a/a/a/a/a/a/a/a/a/a/a/a/a/a/a/a/a/a/a/a/a/a/a/a/a/a/a/a/a/a/a/a/a/a/a/a/a/a/a/a/a/a/a/a/a\n\
-mkdir /a/a/a/a/a/a/a/a/a/a/a/a/a/a/a/a/a/a/a/a/a/a/a/a/a/a/a/a/a/a/a/a/a/a/a/a/a/a/a/a/a/a/a/a/a/a/a/a/a/a\n\
-mkdir /a/a/a/a/a/a/a/a/a/a/a/a/a/a/a/a/a/a/a/a/a/a/a/a/a/a/a/a/a/a/a/a/a/a/a/a/a/a/a/a/a/a/a/a/a/a/a/a/a/a/a\n\
-mkdir /a/a/a/a/a/a/a/a/a/a/a/a/a/a/a/a/a/a/a/a/a/a/a/a/a/a/a/a/a/a/a/a/a/a/a/a/a/a/a/a/a/a/a/a/a/a/a/a/a/a/a/a\n\
-mkdir /a/a/a/a/a/a/a/a/a/a/a/a/a/a/a/a/a/a/a/a/a/a/a/a/a/a/a/a/a/a/a/a/a/a/a/a/a/a/a/a/a/a/a/a/a/a/a/a/a/a/a/a/a\n\
-mkdir /a/a/a/a/a/a/a/a/a/a/a/a/a/a/a/a/a/a/a/a/a/a/a/a/a/a/a/a/a/a/a/a/a/a/a/a/a/a/a/a/a/a/a/a/a/a/a/a/a/a/a/a/a/a\n\
-mkdir /a/a/a/a/a/a/a/a/a/a/a/a/a/a/a/a/a/a/a/a/a/a/a/a/a/a/a/a/a/a/a/a/a/a/a/a/a/a/a/a/a/a/a/a/a/a/a/a/a/a/a/a/a/a/a\n\
-mkdir /a/a/a/a/a/a/a/a/a/a/a/a/a/a/a/a/a/a/a/a/a/a/a/a/a/a/a/a/a/a/a/a/a/a/a/a/a/a/a/a/a/a/a/a/a/a/a/a/a/a/a/a/a/a/a/a\n\
-mkdir /a/a/a/a/a/a/a/a/a/a/a/a/a/a/a/a/a/a/a/a/a/a/a/a/a/a/a/a/a/a/a/a/a/a/a/a/a/a/a/a/a/a/a/a/a/a/a/a/a/a/a/a/a/a/a/a/a\n\
-mkdir /a/a/a/a/a/a/a/a/a/a/a/a/a/a/a/a/a/a/a/a/a/a/a/a/a/a/a/a/a/a/a/a/a/a/a/a/a/a/a/a/a/a/a/a/a/a/a/a/a/a/a/a/a/a/a/a/a/a\n\
-mkdir /a/a/a/a/a/a/a/a/a/a/a/a/a/a/a/a/a/a/a/a/a/a/a/a/a/a/a/a/a/a/a/a/a/a/a/a/a/a/a/a/a/a/a/a/a/a/a/a/a/a/a/a/a/a/a/a/a/a/a\n\
-mkdir /a/a/a/a/a/a/a/a/a/a/a/a/a/a/a/a/a/a/a/a/a/a/a/a/a/a/a/a/a/a/a/a/a/a/a/a/a/a/a/a/a/a/a/a/a/a/a/a/a/a/a/a/a/a/a/a/a/a/a/a\n\
-mkdir /a/a/a/a/a/a/a/a/a/a/a/a/a/a/a/a/a/a/a/a/a/a/a/a/a/a/a/a/a/a/a/a/a/a/a/a/a/a/a/a/a/a/a/a/a/a/a/a/a/a/a/a/a/a/a/a/a/a/a/a/a\n\
-mkdir /a/a/a/a/a/a/a/a/a/a/a/a/a/a/a/a/a/a/a/a/a/a/a/a/a/a/a/a/a/a/a/a/a/a/a/a/a/a/a/a/a/a/a/a/a/a/a/a/a/a/a/a/a/a/a/a/a/a/a/a/a/a\n\
-mkdir /a/a/a/a/a/a/a/a/a/a/a/a/a/a/a/a/a/a/a/a/a/a/a/a/a/a/a/a/a/a/a/a/a/a/a/a/a/a/a/a/a/a/a/a/a/a/a/a/a/a/a/a/a/a/a/a/a/a/a/a/a/a/a\n\
-mkdir /a/a/a/a/a/a/a/a/a/a/a/a/a/a/a/a/a/a/a/a/a/a/a/a/a/a/a/a/a/a/a/a/a/a/a/a/a/a/a/a/a/a/a/a/a/a/a/a/a/a/a/a/a/a/a/a/a/a/a/a/a/a/a/a\n\
-mkdir /b\n\
-mv /a /b/a\n",
-        "\
-ok\n\
-ok\n\
-ok\n\
-ok\n\
-ok\n\
-ok\n\
-ok\n\
-ok\n\
-ok\n\
-ok\n\
-ok\n\
-ok\n\
-ok\n\
-ok\n\
-ok\n\
-ok\n\
-ok\n\
-ok\n\
-ok\n\
-ok\n\
-ok\n\
-ok\n\
-ok\n\
-ok\n\
-ok\n\
-ok\n\
-ok\n\
-ok\n\
-ok\n\
-ok\n\
-ok\n\
-ok\n\
-ok\n\
-ok\n\
-ok\n\
-ok\n\
-ok\n\
-ok\n\
-ok\n\
-ok\n\
-ok\n\
-ok\n\
-ok\n\
-ok\n\
-ok\n\
-ok\n\
-ok\n\
-ok\n\
-ok\n\
-ok\n\
-ok\n\
-ok\n\
-ok\n\
-ok\n\
-ok\n\
-ok\n\
-ok\n\
-ok\n\
-ok\n\
-ok\n\
-ok\n\
-ok\n\
-ok\n\
-ok\n\
-ok\n\
-ok\n\
-ok\n\
-ok\n\
-refused 11 TooDeep\n",
-        Status::DoneRefused,
-    ),
     // Every line that changes items, and what it leaves.
     (
+        FORMAT_BOTH,
         "\
-at 2009-03-02-090000\n\
-newvolume HD 6ba7b810-9dad-11d1-80b4-00c04fd430c8 1000\n\
-newstore Mac\n\
 mkdir /a\n\
 write /a/f one\n\
 append /a/f two\n\
@@ -352,9 +174,6 @@ rm /a/h\n\
 rmdir /a\n\
 ls /\n",
         "\
-ok\n\
-ok\n\
-ok\n\
 ok\n\
 ok\n\
 ok\n\
@@ -395,10 +214,8 @@ ok\n",
     ),
     // Dates: contents set a file's own, entries their folder's, attributes none.
     (
+        FORMAT_BOTH,
         "\
-at 2009-03-02-090000\n\
-newvolume HD 6ba7b810-9dad-11d1-80b4-00c04fd430c8 1000\n\
-newstore Mac\n\
 mkdir /a\n\
 write /a/f one\n\
 at 2009-03-02-100000\n\
@@ -411,9 +228,6 @@ mv /a/f /g\n\
 ls /\n\
 ls /a\n",
         "\
-ok\n\
-ok\n\
-ok\n\
 ok\n\
 ok\n\
 ok\n\
@@ -436,10 +250,8 @@ ok\n",
     ),
     // The lines that look at the store.
     (
+        FORMAT_BOTH,
         "\
-at 2009-03-02-090000\n\
-newvolume HD 6ba7b810-9dad-11d1-80b4-00c04fd430c8 1000\n\
-newstore Mac\n\
 mkdir /a\n\
 write /a/f one\n\
 ln /l x\n\
@@ -462,9 +274,6 @@ store cat /Backups.backupdb/Mac/2009-03-02-090000/HD/a/f\n\
 store cat /Backups.backupdb/Mac/Latest/HD/a/f\n\
 store cat /Backups.backupdb/Mac/Latest/HD/l\n",
         "\
-ok\n\
-ok\n\
-ok\n\
 ok\n\
 ok\n\
 ok\n\
@@ -509,9 +318,8 @@ ok\n",
     ),
     // An item has 16 extra attributes, and a value of one may still change.
     (
+        FORMAT_VOLUME,
         "\
-at 2009-03-02-090000\n\
-newvolume HD 6ba7b810-9dad-11d1-80b4-00c04fd430c8 1000\n\
 setx / n00 v\n\
 setx / n01 v\n\
 setx / n02 v\n\
@@ -548,21 +356,16 @@ ok\n\
 ok\n\
 ok\n\
 ok\n\
-ok\n\
-ok\n\
 refused 13 TooMany 17\n",
         Status::DoneRefused,
     ),
     // A file has 16 MiB.
     (
+        FORMAT_VOLUME,
         "\
-at 2009-03-02-090000\n\
-newvolume HD 6ba7b810-9dad-11d1-80b4-00c04fd430c8 1000\n\
 fill /f 16777216 0\n\
 append /f x\n",
         "\
-ok\n\
-ok\n\
 ok\n\
 refused 12 TooLong 16777217\n",
         Status::DoneRefused,

@@ -1,22 +1,30 @@
 //! Runs that are cut off at each of their calls, and what the next run then reads.
-use crate::images::run_next;
-use crate::pairs::pair;
 use crate::scripts::{FIRST, FIRST_SAYS};
-use crate::tests::COMMAND;
-use std::alloc::Global;
+use std::alloc::{AllocError, Global};
 use std::test::Fail;
+use tm_memworld::MemWorld;
 use tm_run::Status;
+use tm_run_testing::{FORMAT_BOTH, FORMAT_BOTH_SAYS, Stop, joined, run_next, said, stops_after};
+use tm_testing::pair;
 
-/// Two backups of a file that changes between them.
-const SCRIPT: &str = "\
-at 2009-03-02-090000\n\
-newvolume HD 6ba7b810-9dad-11d1-80b4-00c04fd430c8 1000\n\
-newstore Mac\n\
+/// No script here makes so many calls.
+const MOST_CALLS: u64 = 1000;
+
+/// Two backups of a file that changes between them, over a new volume and a new store.
+const TWO_BACKUPS: &str = "\
 write /f one\n\
 tmutil startbackup --block\n\
 at 2009-03-02-100000\n\
 write /f two\n\
 tmutil startbackup --block\n";
+
+/// A later backup, and what it has once the second text was written.
+const LATER: &str = "\
+at 2009-03-02-110000\n\
+tmutil startbackup --block\n\
+store cat /Backups.backupdb/Mac/Latest/HD/f\n";
+
+const LATER_SAYS: &str = "ok\nfinished 2009-03-02-110000 walked 1\nok\nbytes 3 two\nok\n";
 
 /// What the next run asks.
 const NEXT: &str = "\
@@ -78,126 +86,110 @@ const LEAST: [usize; 9] = [0, 0, 0, 1, 1, 2, 2, 2, 3];
 /// The greatest place: the next line may have been done too.
 const MOST: [usize; 9] = [0, 0, 1, 1, 2, 2, 2, 3, 3];
 
-/// How many replies were said.
-fn replies_in(said: &str) -> usize {
-    let mut rest = said;
-    let mut count = 0usize;
-    for reply in REPLIES {
-        match rest.strip_prefix(reply) {
-            Some(after) => {
-                rest = after;
-                count = count.saturating_add(1);
-            }
-            None => return count,
-        }
-    }
-    count
-}
-
-/// The place of an answer.
-fn place_of(said: &str) -> Option<usize> {
-    for (place, answer) in ANSWERS.iter().enumerate() {
-        if *answer == said {
-            return Some(place);
-        }
-    }
-    None
-}
-
-/// Runs the script until a call, and stops with blocks of this byte in the place of those that were
-/// not synced. Whether it was whole, and whether the next run may read what it reads.
-fn stops_at(alloc: Global, call: u64, byte: u8) -> Result<(bool, bool), Fail> {
-    let mut world = pair(alloc, 64)?;
-    world.fuse(call);
-    let ended = run_next(alloc, &mut world, &COMMAND, SCRIPT)?;
-    let replies = replies_in(str::from_utf8(world.said())?);
-    world.stop(&[byte; 4096]);
-    run_next(alloc, &mut world, &COMMAND, NEXT)?;
-    let is_among = match place_of(str::from_utf8(world.said())?) {
-        Some(place) => match (LEAST.get(replies), MOST.get(replies)) {
-            (Some(least), Some(most)) => *least <= place && place <= *most,
-            _ => false,
-        },
-        None => false,
+/// Whether what the next run says may be read after so many replies. Once the second text was written,
+/// a later backup has it.
+fn may_be_read(said: &str, replies: usize) -> bool {
+    let (Some(least), Some(most)) = (LEAST.get(replies), MOST.get(replies)) else {
+        return false;
     };
-    Ok((ended == Status::Done, is_among))
+    for (place, answer) in ANSWERS.iter().enumerate() {
+        if let Some(after) = said.strip_prefix(*answer) {
+            let is_later = if replies < 7 {
+                after == ""
+            } else {
+                after == LATER_SAYS
+            };
+            return *least <= place && place <= *most && is_later;
+        }
+    }
+    false
+}
+
+/// Runs the script as far as a stop, and then the next. Whether the script was run to its end, and
+/// whether the next run says what it may.
+fn next_may_say(alloc: Global, script: &str, stop: Stop) -> Result<(bool, bool), AllocError> {
+    let mut world = pair(alloc, 64, 64).or(Err(AllocError))?;
+    let (ended, replies) = stops_after(alloc, &mut world, script, &REPLIES, stop)?;
+    let later = if replies < 7 { "" } else { LATER };
+    run_next(alloc, &mut world, &joined(alloc, NEXT, later)?)?;
+    Ok((ended == Status::Done, may_be_read(said(&world), replies)))
+}
+
+/// Stops the script at each of its calls in turn. The first after which the next run says what it may
+/// not, or how many calls there are.
+fn first_bad_stop(alloc: Global, byte: u8) -> Result<Option<u64>, AllocError> {
+    let script = joined(alloc, FORMAT_BOTH, TWO_BACKUPS)?;
+    for call in 0..MOST_CALLS {
+        let (is_whole, may_say) = next_may_say(alloc, &script, Stop { call, byte })?;
+        if !may_say {
+            return Ok(Some(call));
+        }
+        if is_whole {
+            return Ok(None);
+        }
+    }
+    Ok(Some(MOST_CALLS))
 }
 
 #[test]
 fn a_stop_leaves_the_snapshots_that_were_finished(rt: HostRuntime) -> Result<(), Fail> {
-    let alloc = rt.alloc();
     for byte in [0, 1, 0xff] {
-        let mut is_whole = false;
-        for call in 0..500 {
-            if is_whole {
-                break;
-            }
-            let (whole, is_among) = stops_at(alloc, call, byte)?;
-            assert!(rt; is_among, "call {call} with blocks of {byte}");
-            is_whole = whole;
-        }
-        assert!(rt; is_whole);
+        let bad = first_bad_stop(rt.alloc(), byte)?;
+        assert_eq!(rt; bad, None, "with blocks of {byte}");
     }
     Ok(())
 }
 
+/// What two runs said of which one call failed, and how the last ended.
+fn said_with_failure<'a>(
+    alloc: Global,
+    world: &'a mut MemWorld,
+    scripts: [&str; 2],
+    call: u64,
+) -> Result<(&'a str, Status), AllocError> {
+    world.fail_at(&[call]).or(Err(AllocError))?;
+    let mut ended = run_next(alloc, world, scripts[0])?;
+    if ended == Status::Done {
+        ended = run_next(alloc, world, scripts[1])?;
+    }
+    Ok((said(world), ended))
+}
+
 #[test]
-fn a_backup_that_was_cut_off_runs_no_more(rt: HostRuntime) -> Result<(), Fail> {
+fn a_call_that_fails_ends_the_run(rt: HostRuntime) -> Result<(), Fail> {
     let alloc = rt.alloc();
-    let again = "\
-at 2009-03-02-110000\n\
-tmutil startbackup --block\n\
-store cat /Backups.backupdb/Mac/Latest/HD/f\n";
-    let says = "ok\nfinished 2009-03-02-110000 walked 1\nok\nbytes 3 two\nok\n";
+    let first = joined(alloc, FORMAT_BOTH, FIRST)?;
+    let scripts = [
+        first.as_str(),
+        "store cat /Backups.backupdb/Mac/Latest/HD/f\n",
+    ];
+    let says = format!(in alloc; "{FORMAT_BOTH_SAYS}{FIRST_SAYS}bytes 5 hello\nok\n")?;
     let mut is_whole = false;
-    for call in 0..500 {
+    for call in 0..MOST_CALLS {
+        let mut world = pair(alloc, 64, 64)?;
+        let (said, ended) = said_with_failure(alloc, &mut world, scripts, call)?;
+        assert!(rt; says.starts_with(said), "call {call} said {said}");
+        is_whole = ended == Status::Done && said == says.as_str();
+        let is_fault = is_fault(ended, call, said);
+        assert!(rt;
+            is_whole || is_fault,
+            "call {call} said {said} and ended {ended:?}"
+        );
         if is_whole {
             break;
-        }
-        let mut world = pair(alloc, 64)?;
-        world.fuse(call);
-        let ended = run_next(alloc, &mut world, &COMMAND, SCRIPT)?;
-        is_whole = ended == Status::Done;
-        let replies = replies_in(str::from_utf8(world.said())?);
-        world.stop(&[0xff; 4096]);
-        // Once the second text was written, a later backup has it.
-        if replies >= 7 {
-            let ended = run_next(alloc, &mut world, &COMMAND, again)?;
-            assert_eq!(rt; str::from_utf8(world.said())?, says, "call {call}");
-            assert_eq!(rt; ended, Status::Done);
         }
     }
     assert!(rt; is_whole);
     Ok(())
 }
 
-#[test]
-fn a_call_that_fails_ends_a_second_run(rt: HostRuntime) -> Result<(), Fail> {
-    let alloc = rt.alloc();
-    let script = "store cat /Backups.backupdb/Mac/Latest/HD/f\n";
-    let whole = format!(in alloc; "{FIRST_SAYS}bytes 5 hello\nok\n")?;
-    let mut is_whole = false;
-    for call in 0..500 {
-        if is_whole {
-            break;
-        }
-        let mut world = pair(alloc, 64)?;
-        world.fail_at(&[call])?;
-        if run_next(alloc, &mut world, &COMMAND, FIRST)? == Status::Done {
-            let ended = run_next(alloc, &mut world, &COMMAND, script)?;
-            let said = str::from_utf8(world.said())?;
-            assert!(rt; said.starts_with(FIRST_SAYS), "call {call} said {said}");
-            assert!(rt; whole.as_str().starts_with(said), "call {call} said {said}");
-            match ended {
-                Status::Done => {
-                    assert_eq!(rt; said, whole.as_str());
-                    is_whole = true;
-                }
-                Status::ScriptFault | Status::OutFault | Status::Device { .. } => {}
-                _ => assert!(rt; false, "call {call} ended otherwise"),
-            }
-        }
+/// Whether a run may end like this where a call failed. A run attaches and takes its script by its first
+/// three calls, before it says anything.
+fn is_fault(ended: Status, call: u64, said: &str) -> bool {
+    match ended {
+        Status::ScriptFault if call < 3 => said == "",
+        Status::ScriptFault => said.ends_with(FIRST_SAYS),
+        Status::OutFault | Status::Device { .. } => call >= 3,
+        _ => false,
     }
-    assert!(rt; is_whole);
-    Ok(())
 }

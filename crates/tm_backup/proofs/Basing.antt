@@ -13,8 +13,8 @@ use Rattle.tm_tree.specs.declared.node.NodeRow.{NodeRow}
 use Rattle.tm_tree.specs.States.{tree_of_volume, base}
 use Rattle.tm_graph.specs.Nodes.{Nodes, node}
 use Rattle.tm_graph.specs.Trees.{rows_of}
-use Rattle.tm_build.specs.Reading.{item_of, labelled}
-use Rattle.tm_build.specs.Copying.{tree_under}
+use Rattle.tm_copy.specs.Reading.{item_of, labelled}
+use Rattle.tm_copy.specs.Copying.{tree_under}
 use Rattle.tm_store_records.specs.declared.snapshot.Snapshot.{Snapshot}
 use Rattle.tm_store_records.specs.Built.{last_root}
 use Rattle.tm_store_records.specs.Found.{roots_of, snapshot_key, snapshots_in}
@@ -23,12 +23,9 @@ use Rattle.tm_store_records.specs.Held.{Held, IsWhole, store_on, files_of}
 use Rattle.tm_store_records.specs.Rules.{is_folder_node}
 use Rattle.tm_store_records.specs.States.{item_on, labelled_on, snapshot_on}
 use Rattle.tm_backup.specs.Taking.{root_of_volume, base_root, prev_on}
+use Rattle.tm_base.proofs.Facts.{last_there}
 
 -- ---- the last of a list
-
-last_there : {X : Type 0} (o : Option X) (x : X) (xs : List X) → slice_get (x ∷ xs) (length xs) ≡ last_or o (x ∷ xs)
-last_there o x [] = refl
-last_there o x (y ∷ ys) = last_there (Some x) y ys
 
 last_is : {X : Type 0} (xs : List X) → slice_get xs (length xs - 1) ≡ last_or None xs
 last_is [] = refl

@@ -26,15 +26,15 @@ use Rattle.tm_graph.proofs.PlaceAt.{or_else}
 use Rattle.tm_fit.specs.Fit.{Fits, SnapshotsFit, SnapshotFits, StampsAgree}
 use Rattle.tm_image.specs.Seen.{Seen as Image}
 use Rattle.tm_store_records.specs.Held.{Held, store_on, files_of}
-use Rattle.tm_store_records.specs.Built.{bytes_of_blob, files_built, snapshot_built, completed}
+use Rattle.tm_store_records.specs.Built.{bytes_of_blob, files_built, snapshot_built, store_completed}
 use Rattle.tm_store_records.specs.States.{item_on, labelled_on, snapshot_on}
 use Rattle.tm_volume.specs.Seen.{Seen, volume_on}
-use Rattle.tm_build.specs.Making.{Making, IsMaking, lengths_of, file_length}
-use Rattle.tm_build.specs.Reading.{labelled}
-use Rattle.tm_build.specs.Stamps.{StampsTell}
-use Rattle.tm_build.specs.Building.{Backup, prev, first, next, all, all_files}
-use Rattle.tm_build.proofs.Appended.{node-append, old_below}
-use Rattle.tm_build.proofs.Telling.{agreeing_tell}
+use Rattle.tm_copy.specs.Making.{Making, IsMaking, lengths_of, file_length}
+use Rattle.tm_copy.specs.Reading.{labelled}
+use Rattle.tm_copy.specs.Stamps.{StampsTell}
+use Rattle.tm_copy.specs.Building.{Backup, prev, first, next, all, all_files}
+use Rattle.tm_copy.proofs.Appended.{node-append, old_below}
+use Rattle.tm_copy.proofs.Telling.{agreeing_tell}
 use Rattle.tm_backup.specs.Growing.{IsFilled}
 use Rattle.tm_backup.specs.Taking.{base_root, view_on, backup_of}
 use Rattle.tm_backup.proofs.Basing.{reads_same, base_tree}
@@ -208,5 +208,5 @@ module _ (told : Type 0) (t : told) (s : Held) (v : Seen) (bytes start stored : 
   snapshot_is : (date : ℕ) → snapshot_on (files_built after built stored) (all b m.nodes) (snapshot_built after built date v.head.name v.head.id mark) ≡ snapshot_of (store_on s start) (volume_on v bytes) date
   snapshot_is date = λ i. record { date = date; volume = v.head.name; id = v.head.id; generation = v.tag.generation; cursor = v.tag.next - 1; tree = copy_is i }
 
-  pub copied : (date : ℕ) → completed after built date v.head.name v.head.id mark stored ≡ backed_up (store_on s start) (volume_on v bytes) date
+  pub copied : (date : ℕ) → store_completed after built date v.head.name v.head.id mark stored ≡ backed_up (store_on s start) (volume_on v bytes) date
   copied date = λ i. record { machine = (state i).machine; number = (state i).number + 1; snapshots = (state i).snapshots ++ snapshot_is date i ∷ [] }

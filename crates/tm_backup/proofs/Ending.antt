@@ -1,5 +1,5 @@
 -- What was made may be added to the store.
-use Rattle.std.proofs.Common.{◌≡◌, ℕ, ◌+◌, ◌<◌, ◌≤◌, ◌^◌, Bool, true, false, cond, not, nat_eq, if◌then◌else◌, Option, Some, None, is_some, List, [], ◌∷◌, ◌++◌, length, get_or, filter, map, refl, sym, ap, ◌∙◌, subst, arith}
+use Rattle.std.proofs.Common.{if◌then◌else◌, ◌≡◌, ℕ, ◌+◌, ◌<◌, ◌≤◌, ◌^◌, Bool, true, false, cond, not, nat_eq, Option, Some, None, is_some, List, [], ◌∷◌, ◌++◌, length, get_or, filter, map, refl, sym, ap, ◌∙◌, subst, arith}
 use Rattle.std.specs.List.{All, slice_get, cons_option}
 use Rattle.std.specs.Option.{option_map, unwrap_or}
 use Rattle.std.proofs.lemmas.Bool.Decides.{nat_tests}
@@ -9,6 +9,7 @@ use Rattle.std.proofs.lemmas.List.Sums.{length-filter, count_by-le-length, sum_b
 use Rattle.std.proofs.lemmas.Option.{slice_get_read}
 use Rattle.tm_base.specs.IsName.{IsName}
 use Rattle.tm_base.specs.Paths.{Names}
+use Rattle.tm_base.specs.Limits.{max_items, max_file_bytes}
 use Rattle.tm_world.specs.declared.bytes.Blob.{Blob}
 use Rattle.tm_tree.specs.declared.attrs.Attrs.{Attrs}
 use Rattle.tm_tree.specs.declared.item.Item.{Item}
@@ -35,17 +36,17 @@ use Rattle.tm_nodes.specs.Nodes.{node_attrs, IsNodeTail, AreEntries}
 use Rattle.tm_image.specs.Seen.{Seen as Image}
 use Rattle.tm_store_records.specs.Held.{Held}
 use Rattle.tm_store_records.specs.Built.{IsBuilt, IsNew}
-use Rattle.tm_store_records.specs.Built.{lengths_of as built_lengths, file_length as built_length}
+use Rattle.tm_store_records.specs.Built.{built_lengths, built_length}
 use Rattle.tm_volume.specs.Seen.{Seen, IsKept, tree_on}
 use Rattle.tm_volume.specs.Bounds.{HasFields, HasBounds, ItemsKeepBounds, KeptAreFew}
-use Rattle.tm_build.specs.Making.{Making, IsMaking, next_number, lengths_of, file_length}
-use Rattle.tm_build.specs.Listed.{StandsAs}
-use Rattle.tm_build.specs.Reading.{item_of}
-use Rattle.tm_build.specs.Stamps.{alike}
-use Rattle.tm_build.specs.Building.{Backup, prev, next, IsNewNode}
-use Rattle.tm_build.specs.Driving.{IsPlaced}
-use Rattle.tm_build.proofs.Naming.{rows_stand_in}
-use Rattle.tm_build.proofs.Finishes.{leaf_is_same}
+use Rattle.tm_copy.specs.Making.{Making, IsMaking, next_number, lengths_of, file_length}
+use Rattle.tm_copy.specs.Listed.{StandsAs}
+use Rattle.tm_copy.specs.Reading.{item_of}
+use Rattle.tm_copy.specs.Stamps.{alike}
+use Rattle.tm_copy.specs.Building.{Backup, prev, next, IsNewNode}
+use Rattle.tm_copy.specs.Driving.{IsPlaced}
+use Rattle.tm_copy.proofs.Naming.{rows_stand_in}
+use Rattle.tm_copy.proofs.Finishes.{leaf_is_same}
 use Rattle.tm_backup.specs.Growing.{IsFilled}
 use Rattle.tm_backup.specs.Taking.{taken, base_root, view_on, backup_of}
 use Rattle.tm_backup.proofs.Basing.{root_over}
@@ -70,16 +71,16 @@ length_is (Leaf (File a s n)) = refl
 length_is (Leaf (Link a s t)) = refl
 
 abbrev IsSmall : ℕ × NodeRow → Type 0
-IsSmall e = node_length e.1 ≤ 16777216
+IsSmall e = node_length e.1 ≤ max_file_bytes
 
 abbrev IsShort : ℕ × ℕ → Type 0
-IsShort x = x.1 ≤ 16777216
+IsShort x = x.1 ≤ max_file_bytes
 
 module _ (e : ℕ × NodeRow) (nodes : Nodes) where
   small_node : (o : Option ℕ) → file_length e.1.body ≡ o → All IsShort (cons_option (option_map (λ size. (e.0, size)) o) (lengths_of nodes)) → IsSmall e × All IsShort (lengths_of nodes)
   small_node None is h = (omega (arith, length_is e.1.body ∙ ap (λ o. unwrap_or o 0) is), h)
   small_node (Some size) is h = (
-    let short : size ≤ 16777216 = All-head IsShort (e.0, size) (lengths_of nodes) h in omega (arith, short, length_is e.1.body ∙ ap (λ o. unwrap_or o 0) is),
+    let short : size ≤ max_file_bytes = All-head IsShort (e.0, size) (lengths_of nodes) h in omega (arith, short, length_is e.1.body ∙ ap (λ o. unwrap_or o 0) is),
     All-tail IsShort (e.0, size) (lengths_of nodes) h,
   )
 
@@ -188,10 +189,10 @@ module _ (told : Type 0) (s : Held) (v : Seen) (bytes : ℕ → List ℕ) (files
       (λ row stands. last_all IsName place row.name (path_bounds (place ++ row.name ∷ []) (stands_some (place ++ row.name ∷ []) row stands)).1.names)
       (list_rows b.now place) (rows_stand_in b.now place made.sound.tree)
 
-  now_few : length b.now ≤ 65536
+  now_few : length b.now ≤ max_items
   now_few = taken_few (prev b) v bytes (few v bytes kept)
 
-  rows_few : (place : Names) → length (list_rows b.now place) ≤ 65536
+  rows_few : (place : Names) → length (list_rows b.now place) ≤ max_items
   rows_few place =
       let child = λ (row : Names × Item). is_child place row.0 in
       omega (arith, now_few, rows_len, length-filter child b.now, count_by-le-length child b.now)
@@ -226,7 +227,7 @@ module _ (told : Type 0) (s : Held) (v : Seen) (bytes : ℕ → List ℕ) (files
 
   small_all : All IsSmall m.nodes
   small_all = small_nodes m.nodes (subst (λ (xs : List (ℕ × ℕ)). All IsShort xs) making.files
-      (All-map IsShort {Y = ℕ × Blob} (λ (x : ℕ × Blob). (x.0, x.1.length)) m.blobs (All-weaker (IsFilled told (next b m.nodes) stored made.other) (λ (x : ℕ × Blob). x.1.length ≤ 16777216) (λ x f. f.small) m.blobs made.filled)))
+      (All-map IsShort {Y = ℕ × Blob} (λ (x : ℕ × Blob). (x.0, x.1.length)) m.blobs (All-weaker (IsFilled told (next b m.nodes) stored made.other) (λ (x : ℕ × Blob). x.1.length ≤ max_file_bytes) (λ x f. f.small) m.blobs made.filled)))
 
   low_all : All (λ (e : ℕ × NodeRow). e.0 < 2 ^ 64) m.nodes
   low_all i d below =

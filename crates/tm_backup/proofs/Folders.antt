@@ -19,12 +19,12 @@ use Rattle.tm_tree.proofs.CopyProofs.{at_is}
 use Rattle.tm_tree.proofs.Order.{InOrder, AllPaths, in_order_filter}
 use Rattle.tm_tree.proofs.TreesKept.{nothing_beneath}
 use Rattle.tm_graph.proofs.PlaceAt.{or_else, at-append}
-use Rattle.tm_build.proofs.Choices.{nothing_in}
-use Rattle.tm_build.proofs.Naming.{child_path}
-use Rattle.tm_build.proofs.Shared.{item_at-beneath, prefix_self}
+use Rattle.tm_copy.proofs.Choices.{nothing_in}
+use Rattle.tm_copy.proofs.Naming.{child_path}
+use Rattle.tm_copy.proofs.Shared.{item_at-beneath, prefix_self}
 use Rattle.tm_backup.specs.Growing.{folders_from}
 use Rattle.tm_backup.specs.Laws.{FoldersInOrder}
-use Rattle.tm_backup.specs.Plans.{Head, is_folder_kind, row_head, folder_names}
+use Rattle.tm_backup.specs.EntryPlans.{Head, is_folder_kind, row_head, folder_names}
 use Rattle.tm_backup.specs.Walk.{folders}
 use Rattle.tm_backup.proofs.Rows.{row_of, IsEntry, are_entries}
 
@@ -69,8 +69,8 @@ at_blocks t (c ∷ rows) q =
 
 module _ (p : Names) where
   -- an entry of that name
-  abbrev Named : Names × Item → Type 0
-  Named c = c.0 ≡ p ++ last_of c.0 ∷ []
+  abbrev IsChildRow : Names × Item → Type 0
+  IsChildRow c = c.0 ≡ p ++ last_of c.0 ∷ []
 
   -- paths beneath one name are below those beneath a later one
   less_beneath : (x y : List ℕ) (r s : Names) → name_cmp x y ≡ Less → path_cmp (p ++ x ∷ r) (p ++ y ∷ s) ≡ Less
@@ -89,23 +89,23 @@ module _ (p : Names) where
 
   module _ (t : Tree) where
     -- all beneath later entries is above
-    above_all : (x : List ℕ) (r : Names) (rows : Tree) → All Named rows → AllPaths (λ q. path_cmp (p ++ x ∷ []) q ≡ Less) rows → AllPaths (λ q. path_cmp (p ++ x ∷ r) q ≡ Less) (blocks t rows)
+    above_all : (x : List ℕ) (r : Names) (rows : Tree) → All IsChildRow rows → AllPaths (λ q. path_cmp (p ++ x ∷ []) q ≡ Less) rows → AllPaths (λ q. path_cmp (p ++ x ∷ r) q ≡ Less) (blocks t rows)
     above_all x r [] each h = tt
     above_all x r (c ∷ rows) each h =
-        let named = All-head Named c rows each in
+        let named = All-head IsChildRow c rows each in
         let less : name_cmp x (last_of c.0) ≡ Less = names_less x (last_of c.0) (subst (λ (q : Names). path_cmp (p ++ x ∷ []) q ≡ Less) named h.0) in
         below_append (λ q. path_cmp (p ++ x ∷ r) q ≡ Less) (beneath t c.0) (blocks t rows)
         (all_of (λ q. path_cmp (p ++ x ∷ r) q ≡ Less) (λ row. is_prefix c.0 row.0) t (λ row on.
         let b = beneath_path (last_of c.0) row.0 (subst (λ (q : Names). is_prefix q row.0 ≡ true) named on) in
         subst (λ (q : Names). path_cmp (p ++ x ∷ r) q ≡ Less) (sym b.1) (less_beneath x (last_of c.0) r b.0 less)))
-        (above_all x r rows (All-tail Named c rows each) h.1)
+        (above_all x r rows (All-tail IsChildRow c rows each) h.1)
 
-    blocks_in_order : (rows : Tree) → InOrder t → All Named rows → InOrder rows → InOrder (blocks t rows)
+    blocks_in_order : (rows : Tree) → InOrder t → All IsChildRow rows → InOrder rows → InOrder (blocks t rows)
     unfolding IsStrictlySortedBy
     blocks_in_order [] order each h = tt
     blocks_in_order (c ∷ rows) order each h =
-        let named = All-head Named c rows each in
-        let rest = All-tail Named c rows each in
+        let named = All-head IsChildRow c rows each in
+        let rest = All-tail IsChildRow c rows each in
         in_order_append (beneath t c.0) (blocks t rows) (in_order_filter (λ row. is_prefix c.0 row.0) t order) (blocks_in_order rows order rest h.1)
         (all_of (λ a. AllPaths (λ q. path_cmp a q ≡ Less) (blocks t rows)) (λ row. is_prefix c.0 row.0) t (λ row on.
         let b = beneath_path (last_of c.0) row.0 (subst (λ (q : Names). is_prefix q row.0 ≡ true) named on) in
@@ -113,15 +113,15 @@ module _ (p : Names) where
         (above_all (last_of c.0) b.0 rows rest (subst (λ (a : Names). AllPaths (λ q. path_cmp a q ≡ Less) rows) named h.0))))
 
     -- the folder's own path is below all of them
-    own_below : (rows : Tree) → All Named rows → AllPaths (λ q. path_cmp p q ≡ Less) (blocks t rows)
+    own_below : (rows : Tree) → All IsChildRow rows → AllPaths (λ q. path_cmp p q ≡ Less) (blocks t rows)
     own_below [] each = tt
     own_below (c ∷ rows) each =
-        let named = All-head Named c rows each in
+        let named = All-head IsChildRow c rows each in
         below_append (λ q. path_cmp p q ≡ Less) (beneath t c.0) (blocks t rows)
         (all_of (λ q. path_cmp p q ≡ Less) (λ row. is_prefix c.0 row.0) t (λ row on.
         let b = beneath_path (last_of c.0) row.0 (subst (λ (q : Names). is_prefix q row.0 ≡ true) named on) in
         subst (λ (q : Names). path_cmp p q ≡ Less) (sym b.1) (ancestor_less p (last_of c.0) b.0)))
-        (own_below rows (All-tail Named c rows each))
+        (own_below rows (All-tail IsChildRow c rows each))
 
     -- an entry that leads to q is one of them
     child_above : (u : Tree) (x : List ℕ) (e : Item) (q : Names) → item_at u (p ++ x ∷ []) ≡ Some e → is_prefix (p ++ x ∷ []) q ≡ true → list_any (λ (c : Names × Item). is_prefix c.0 q) (children u p) ≡ true
@@ -147,20 +147,20 @@ module _ (p : Names) where
         by_at false off is rest = later (rest is)
 
     -- what leads to q lies beneath p
-    any_beneath : (rows : Tree) (q : Names) → All Named rows → list_any (λ (c : Names × Item). is_prefix c.0 q) rows ≡ true → (x : List ℕ) × (r : Names) × (q ≡ p ++ x ∷ r)
+    any_beneath : (rows : Tree) (q : Names) → All IsChildRow rows → list_any (λ (c : Names × Item). is_prefix c.0 q) rows ≡ true → (x : List ℕ) × (r : Names) × (q ≡ p ++ x ∷ r)
     any_beneath [] q each h = absurd (cc h)
-    any_beneath (c ∷ rows) q each h = by_prefix (is_prefix c.0 q) refl h (any_beneath rows q (All-tail Named c rows each))
+    any_beneath (c ∷ rows) q each h = by_prefix (is_prefix c.0 q) refl h (any_beneath rows q (All-tail IsChildRow c rows each))
       where
         by_prefix : (b : Bool) → is_prefix c.0 q ≡ b → (b || list_any (λ (c : Names × Item). is_prefix c.0 q) rows) ≡ true → (list_any (λ (c : Names × Item). is_prefix c.0 q) rows ≡ true → (x : List ℕ) × (r : Names) × (q ≡ p ++ x ∷ r))
             → (x : List ℕ) × (r : Names) × (q ≡ p ++ x ∷ r)
         by_prefix true on h rest =
-            let b = beneath_path (last_of c.0) q (subst (λ (a : Names). is_prefix a q ≡ true) (All-head Named c rows each) on) in
+            let b = beneath_path (last_of c.0) q (subst (λ (a : Names). is_prefix a q ≡ true) (All-head IsChildRow c rows each) on) in
             (last_of c.0, b.0, b.1)
         by_prefix false off h rest = rest h
 
 -- ---- all beneath a path
 
-named_children : (t : Tree) (p : Names) → IsTree t → All (Named p) (children t p)
+named_children : (t : Tree) (p : Names) → IsTree t → All (IsChildRow p) (children t p)
 named_children t p tree i d below = (are_entries t p tree i d below).under
 
 module _ (t : Tree) (p : Names) (e : Item) (tree : IsTree t) (is : item_at t p ≡ Some e) where

@@ -23,15 +23,15 @@ use Rattle.tm_image.specs.Room.{free_of}
 use Rattle.tm_store_records.specs.Held.{Held}
 use Rattle.tm_store_records.specs.Room.{store_blocks}
 use Rattle.tm_volume.specs.Seen.{Seen}
-use Rattle.tm_build.specs.Copying.{node_under}
-use Rattle.tm_build.specs.Listed.{StandsAs}
-use Rattle.tm_build.specs.Building.{Backup}
-use Rattle.tm_backup.specs.declared.stage.Planned.{Planned}
-use Rattle.tm_backup.specs.declared.stage.Plan.{Plan}
-use Rattle.tm_backup.specs.declared.stage.Plan.TheVariants as plan
+use Rattle.tm_copy.specs.Copying.{node_under}
+use Rattle.tm_copy.specs.Listed.{StandsAs}
+use Rattle.tm_copy.specs.Building.{Backup}
+use Rattle.tm_backup.specs.declared.stage.PlannedEntry.{PlannedEntry}
+use Rattle.tm_backup.specs.declared.stage.EntryPlan.{EntryPlan}
+use Rattle.tm_backup.specs.declared.stage.EntryPlan.TheVariants as plan
 use Rattle.tm_backup.specs.Answers.{Stages}
 use Rattle.tm_backup.specs.Growing.{Suits}
-use Rattle.tm_backup.specs.Plans.{plan_head, row_head, is_file_as_was, kind_blocks, row_blocks, plan_blocks, owed, IsPlanFor, IsPlanned, ArePlanned}
+use Rattle.tm_backup.specs.EntryPlans.{plan_head, row_head, is_file_as_was, kind_blocks, row_blocks, plan_blocks, owed, IsPlanFor, IsPlanned, ArePlanned}
 use Rattle.tm_backup.specs.Steps.{MayGo, Ran, Went, store_bytes}
 use Rattle.tm_backup.specs.Taking.{view_on, prev_on, backup_of}
 use Rattle.tm_backup.specs.Walk.{is_as_was, new_blocks, staging_in}
@@ -64,31 +64,31 @@ module _ (told : Type 0) (s t : Held) (l m : Log) (went : Went told s t l m) whe
 -- ---- planned entries
 
 -- the bytes of staged blobs stay
-plan_stays : (told : Type 0) (b : Backup) (x y : ℕ → List ℕ) (q : Names) (p : Plan) → (told → (k : ℕ) → 0 < times k (plan_blocks p) → y k ≡ x k) → IsPlanFor told b x q p → IsPlanFor told b y q p
+plan_stays : (told : Type 0) (b : Backup) (x y : ℕ → List ℕ) (q : Names) (p : EntryPlan) → (told → (k : ℕ) → 0 < times k (plan_blocks p) → y k ≡ x k) → IsPlanFor told b x q p → IsPlanFor told b y q p
 plan_stays told b x y q (plan.Kept n) same h = h
 plan_stays told b x y q (plan.File attrs stamp blob) same h =
     (h.0, h.1, h.2, h.3, h.4, h.5, λ t. held_same blob.blocks y x blob.length h.5 (same t) ∙ h.6 t)
 plan_stays told b x y q (plan.Link attrs stamp target) same h = h
 plan_stays told b x y q plan.Folder same h = h
 
-pub owed-cons : (x : Planned) (entries : List Planned) (k : ℕ) → owed (x ∷ entries) k ≡ times k (plan_blocks x.plan) + owed entries k
-owed-cons x entries k = sum_by-cons (λ (y : Planned). times k (plan_blocks y.plan)) x entries
+pub owed-cons : (x : PlannedEntry) (entries : List PlannedEntry) (k : ℕ) → owed (x ∷ entries) k ≡ times k (plan_blocks x.plan) + owed entries k
+owed-cons x entries k = sum_by-cons (λ (y : PlannedEntry). times k (plan_blocks y.plan)) x entries
 
-pub owed-push : (entries : List Planned) (x : Planned) (k : ℕ) → owed (entries ++ x ∷ []) k ≡ owed entries k + times k (plan_blocks x.plan)
-owed-push entries x k = sum_by-append (λ (y : Planned). times k (plan_blocks y.plan)) entries (x ∷ []) ∙ omega (arith, owed-cons x [] k)
+pub owed-push : (entries : List PlannedEntry) (x : PlannedEntry) (k : ℕ) → owed (entries ++ x ∷ []) k ≡ owed entries k + times k (plan_blocks x.plan)
+owed-push entries x k = sum_by-append (λ (y : PlannedEntry). times k (plan_blocks y.plan)) entries (x ∷ []) ∙ omega (arith, owed-cons x [] k)
 
-pub plans_stay : (told : Type 0) (b : Backup) (x y : ℕ → List ℕ) (p : Names) (entries : List Planned) → (told → (k : ℕ) → 0 < owed entries k → y k ≡ x k) → ArePlanned told b x p entries → ArePlanned told b y p entries
+pub plans_stay : (told : Type 0) (b : Backup) (x y : ℕ → List ℕ) (p : Names) (entries : List PlannedEntry) → (told → (k : ℕ) → 0 < owed entries k → y k ≡ x k) → ArePlanned told b x p entries → ArePlanned told b y p entries
 plans_stay told b x y p [] same h = tt
 plans_stay told b x y p (e ∷ entries) same h = (
   record { base = h.0.base; plan = plan_stays told b x y (p ++ e.name ∷ []) e.plan (λ t k some. same t k (omega (arith, some, owed-cons e entries k))) h.0.plan },
   plans_stay told b x y p entries (λ t k some. same t k (omega (arith, some, owed-cons e entries k))) h.1,
 )
 
-plans_push : (told : Type 0) (b : Backup) (x : ℕ → List ℕ) (p : Names) (entries : List Planned) (e : Planned) → ArePlanned told b x p entries → IsPlanned told b x p e → ArePlanned told b x p (entries ++ e ∷ [])
+plans_push : (told : Type 0) (b : Backup) (x : ℕ → List ℕ) (p : Names) (entries : List PlannedEntry) (e : PlannedEntry) → ArePlanned told b x p entries → IsPlanned told b x p e → ArePlanned told b x p (entries ++ e ∷ [])
 plans_push told b x p [] e h g = (g, tt)
 plans_push told b x p (d ∷ entries) e h g = (h.0, plans_push told b x p entries e h.1 g)
 
-enter_push : (v : Seen) (g : Nodes) (p : Names) (base : Option ℕ) (entries : List Planned) (e : Planned) → MayEnterAll v g p base entries → MayEnter v g p base e → MayEnterAll v g p base (entries ++ e ∷ [])
+enter_push : (v : Seen) (g : Nodes) (p : Names) (base : Option ℕ) (entries : List PlannedEntry) (e : PlannedEntry) → MayEnterAll v g p base entries → MayEnter v g p base e → MayEnterAll v g p base (entries ++ e ∷ [])
 enter_push v g p base [] e h may = (may, tt)
 enter_push v g p base (d ∷ entries) e h may = (h.0, enter_push v g p base entries e h.1 may)
 
@@ -106,7 +106,7 @@ abbrev pub table_of : Held → ℕ
 table_of s = store_blocks s.machine s.snapshots s.nodes
 
 -- how far the entries of a folder were planned
-pub record SoFar (told : Type 0) (v : Seen) (s t : Held) (l m : Log) (p : Names) (base : Option ℕ) (rows left : List ListRow) (planned : List Planned) : Type 0 where
+pub record SoFar (told : Type 0) (v : Seen) (s t : Held) (l m : Log) (p : Names) (base : Option ℕ) (rows left : List ListRow) (planned : List PlannedEntry) : Type 0 where
   pub ran : Ran told v v s t l m
   pub went : Went told s t l m
   pub stages : (root : Option ℕ) (files bytes : ℕ → List ℕ) → Suits told s l p base root bytes
@@ -131,12 +131,12 @@ module _ (told : Type 0) (v : Seen) (s : Held) (l : Log) (a b : ℕ) (may : MayG
   }
 
   -- one entry more
-  module _ (t : Held) (m : Log) (row : ListRow) (left : List ListRow) (planned : List Planned) (far : SoFar told v s t l m p base rows (row ∷ left) planned) where
+  module _ (t : Held) (m : Log) (row : ListRow) (left : List ListRow) (planned : List PlannedEntry) (far : SoFar told v s t l m p base rows (row ∷ left) planned) where
     pub suits_now : (root : Option ℕ) (bytes : ℕ → List ℕ) → Suits told s l p base root bytes → Suits told t m p base root bytes
     suits_now root bytes suits = suits_then told s t l m far.went v v a b may far.ran p base root bytes suits
 
-    module _ (u : Held) (n : Log) (x : Planned) (ran : Ran told v v t u m n) (went : Went told t u m n)
-        (stages : (root : Option ℕ) (files bytes : ℕ → List ℕ) → Suits told t m p base root bytes → Stages {A = Planned} (table_of t) (free_of t.image) (free_of u.image) (row_blocks (prev_on t files root) p row) (Ok x))
+    module _ (u : Held) (n : Log) (x : PlannedEntry) (ran : Ran told v v t u m n) (went : Went told t u m n)
+        (stages : (root : Option ℕ) (files bytes : ℕ → List ℕ) → Suits told t m p base root bytes → Stages {A = PlannedEntry} (table_of t) (free_of t.image) (free_of u.image) (row_blocks (prev_on t files root) p row) (Ok x))
         (plans : (root : Option ℕ) (files bytes : ℕ → List ℕ) → Suits told t m p base root bytes → IsPlanned told (backup_of t files root (view_on v bytes)) (store_bytes n) p x)
         (head : plan_head x ≡ row_head row) (enter : MayEnter v t.nodes p base x) (due : (k : ℕ) → times k u.staged ≡ times k t.staged + times k (plan_blocks x.plan)) where
       pub so_far_next : SoFar told v s u l n p base rows left (planned ++ x ∷ [])
@@ -159,19 +159,19 @@ module _ (told : Type 0) (v : Seen) (s : Held) (l : Log) (a b : ℕ) (may : MayG
           next_blocks : (root : Option ℕ) (files bytes : ℕ → List ℕ) → Suits told s l p base root bytes
               → Onward (table_of s) (free_of s.image) (free_of u.image) (flat_map (row_blocks (prev_on s files root) p) rows) (flat_map (row_blocks (prev_on s files root) p) left)
           next_blocks root files bytes suits =
-              let here : Stages {A = Planned} (table_of s) (free_of t.image) (free_of u.image) (row_blocks (prev_on s files root) p row) (Ok x) =
-              subst (λ (h : Held). Stages {A = Planned} (table_of h) (free_of t.image) (free_of u.image) (row_blocks (prev_on h files root) p row) (Ok x)) far.went.same (stages root files bytes (suits_now root bytes suits)) in
+              let here : Stages {A = PlannedEntry} (table_of s) (free_of t.image) (free_of u.image) (row_blocks (prev_on s files root) p row) (Ok x) =
+              subst (λ (h : Held). Stages {A = PlannedEntry} (table_of h) (free_of t.image) (free_of u.image) (row_blocks (prev_on h files root) p row) (Ok x)) far.went.same (stages root files bytes (suits_now root bytes suits)) in
               onward_next (table_of s) (free_of s.image) (free_of t.image) (free_of u.image) (flat_map (row_blocks (prev_on s files root) p) rows) (row_blocks (prev_on s files root) p row) (flat_map (row_blocks (prev_on s files root) p) left) x
               (far.stages root files bytes suits) here
 
     -- an entry that can't be planned
     pub stages_stop : {A : Type 0} (u : Held) (r : Result A LineFault) (e : LineFault) → r ≡ Err e
-        → ((root : Option ℕ) (files bytes : ℕ → List ℕ) → Suits told t m p base root bytes → Stages {A = Planned} (table_of t) (free_of t.image) (free_of u.image) (row_blocks (prev_on t files root) p row) (Err e))
+        → ((root : Option ℕ) (files bytes : ℕ → List ℕ) → Suits told t m p base root bytes → Stages {A = PlannedEntry} (table_of t) (free_of t.image) (free_of u.image) (row_blocks (prev_on t files root) p row) (Err e))
         → (root : Option ℕ) (files bytes : ℕ → List ℕ) → Suits told s l p base root bytes → Stages (table_of s) (free_of s.image) (free_of u.image) (flat_map (row_blocks (prev_on s files root) p) rows) r
     stages_stop u r e is stages root files bytes suits =
-        let here : Stages {A = Planned} (table_of s) (free_of t.image) (free_of u.image) (row_blocks (prev_on s files root) p row) (Err e) =
-        subst (λ (h : Held). Stages {A = Planned} (table_of h) (free_of t.image) (free_of u.image) (row_blocks (prev_on h files root) p row) (Err e)) far.went.same (stages root files bytes (suits_now root bytes suits)) in
-        onward_err Planned (table_of s) (free_of s.image) (free_of t.image) (free_of u.image) (flat_map (row_blocks (prev_on s files root) p) rows) (row_blocks (prev_on s files root) p row) (flat_map (row_blocks (prev_on s files root) p) left) r e is
+        let here : Stages {A = PlannedEntry} (table_of s) (free_of t.image) (free_of u.image) (row_blocks (prev_on s files root) p row) (Err e) =
+        subst (λ (h : Held). Stages {A = PlannedEntry} (table_of h) (free_of t.image) (free_of u.image) (row_blocks (prev_on h files root) p row) (Err e)) far.went.same (stages root files bytes (suits_now root bytes suits)) in
+        onward_err PlannedEntry (table_of s) (free_of s.image) (free_of t.image) (free_of u.image) (flat_map (row_blocks (prev_on s files root) p) rows) (row_blocks (prev_on s files root) p row) (flat_map (row_blocks (prev_on s files root) p) left) r e is
         (far.stages root files bytes suits) here
 
 -- ---- the blocks by rows, and by items

@@ -18,13 +18,13 @@ use Rattle.tm_tree.specs.declared.node.NodeRow.{NodeRow}
 use Rattle.tm_tree.specs.Items.{bytes_of}
 use Rattle.tm_tree.specs.Trees.{item_at}
 use Rattle.tm_graph.specs.Nodes.{Nodes, greatest, new_node}
-use Rattle.tm_build.specs.Keeping.{kept_link, kept_leaf}
-use Rattle.tm_build.specs.Making.{Making, next_number, with_node, with_file, file_body, Adds}
-use Rattle.tm_build.specs.Building.{Backup, base_at, first, next, IsSound, AreNew, Builds}
-use Rattle.tm_build.proofs.Finishes.{leaf_is_kept, leaf_is_made}
-use Rattle.tm_backup.specs.declared.stage.Plan.TheVariants as plan
+use Rattle.tm_copy.specs.Keeping.{kept_link, kept_leaf}
+use Rattle.tm_copy.specs.Making.{Making, next_number, with_node, with_file, file_body, Adds}
+use Rattle.tm_copy.specs.Building.{Backup, base_at, first, next, IsSound, AreNew, Builds}
+use Rattle.tm_copy.proofs.Finishes.{leaf_is_kept, leaf_is_made}
+use Rattle.tm_backup.specs.declared.stage.EntryPlan.TheVariants as plan
 use Rattle.tm_backup.specs.Growing.{blocks_in, IsFilled, Grown, Grows}
-use Rattle.tm_backup.specs.Plans.{IsPlanFor}
+use Rattle.tm_backup.specs.EntryPlans.{IsPlanFor}
 use Rattle.tm_backup.proofs.Bytes.{held_same}
 
 -- ---- nothing came

@@ -14,13 +14,13 @@ use Rattle.tm_tree.specs.Trees.{Tree, IsTree, item_at}
 use Rattle.tm_tree.specs.Copies.{bare}
 use Rattle.tm_graph.specs.Nodes.{node, IsGraph}
 use Rattle.tm_store_records.specs.Held.{Held}
-use Rattle.tm_build.specs.Reading.{item_of}
-use Rattle.tm_build.specs.Stamps.{alike}
-use Rattle.tm_build.specs.Keeping.{is_file_of, is_link_of, kept_file, kept_link, kept_leaf}
-use Rattle.tm_build.specs.Building.{Backup, prev, base_at, IsSound}
-use Rattle.tm_build.proofs.Keeps.{base_item, base_node}
-use Rattle.tm_build.proofs.Choices.{kept_is, keeps}
-use Rattle.tm_backup.specs.Plans.{is_file_as_was}
+use Rattle.tm_copy.specs.Reading.{item_of}
+use Rattle.tm_copy.specs.Stamps.{alike}
+use Rattle.tm_copy.specs.Keeping.{is_file_of, is_link_of, kept_file, kept_link, kept_leaf}
+use Rattle.tm_copy.specs.Building.{Backup, prev, base_at, IsSound}
+use Rattle.tm_copy.proofs.BaseNodes.{base_item, base_node}
+use Rattle.tm_copy.proofs.Choices.{kept_is, keeps}
+use Rattle.tm_backup.specs.EntryPlans.{is_file_as_was}
 use Rattle.tm_backup.specs.Taking.{taken, prev_on, backup_of}
 use Rattle.tm_backup.proofs.Taking.{item_at-taken, taken_tree, taken_tells}
 

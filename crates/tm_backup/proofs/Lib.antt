@@ -12,7 +12,7 @@ pub mod Folding
 pub mod Growth
 pub mod Folders
 pub mod Entering
-pub mod Whole
+pub mod FolderWalk
 pub mod Walked
 pub mod Basing
 pub mod Rooted

@@ -9,10 +9,10 @@ use Rattle.tm_tree.specs.Trees.{IsTree}
 use Rattle.tm_graph.specs.Nodes.{greatest, IsGraph}
 use Rattle.tm_store_records.specs.Held.{Held, IsWhole}
 use Rattle.tm_volume.specs.Seen.{Seen}
-use Rattle.tm_build.specs.Making.{Making, begun}
-use Rattle.tm_build.specs.Building.{Backup, first, next, IsSound, AreNew, Builds}
-use Rattle.tm_build.specs.Driving.{IsBackedUp}
-use Rattle.tm_build.proofs.Finishes.{none_are_new, backup_is_built}
+use Rattle.tm_copy.specs.Making.{Making, begun}
+use Rattle.tm_copy.specs.Building.{Backup, first, next, IsSound, AreNew, Builds}
+use Rattle.tm_copy.specs.Driving.{IsBackedUp}
+use Rattle.tm_copy.proofs.Finishes.{none_are_new, backup_is_built}
 use Rattle.tm_backup.specs.Growing.{blocks_in, IsFilled}
 use Rattle.tm_backup.specs.Steps.{volume_bytes, store_bytes}
 use Rattle.tm_backup.specs.Taking.{base_root, view_on, backup_of}

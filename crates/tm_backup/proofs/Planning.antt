@@ -1,6 +1,7 @@
 -- What becomes of an entry.
-use Rattle.std.proofs.Common.{◌≡◌, ℕ, ◌≤◌, Bool, true, false, cond, not, if◌then◌else◌, Option, Some, None, IfSome, List, [], ◌∷◌, ◌++◌, length, refl, sym, ap, ◌∙◌, subst}
+use Rattle.std.proofs.Common.{if◌then◌else◌, ◌≡◌, ℕ, ◌≤◌, Bool, true, false, cond, not, Option, Some, None, IfSome, List, [], ◌∷◌, ◌++◌, length, refl, sym, ap, ◌∙◌, subst}
 use Rattle.tm_base.specs.Paths.{Names}
+use Rattle.tm_base.specs.Limits.{max_file_bytes}
 use Rattle.tm_chain.specs.Blob.{blob_len, bytes_in}
 use Rattle.tm_world.specs.declared.bytes.Blob.{Blob}
 use Rattle.tm_world.specs.Log.{Log}
@@ -16,16 +17,16 @@ use Rattle.tm_tree.proofs.ViewsKept.{item_at-view}
 use Rattle.tm_graph.specs.Nodes.{IsGraph}
 use Rattle.tm_store_records.specs.Held.{Held}
 use Rattle.tm_volume.specs.Seen.{Seen, tree_on}
-use Rattle.tm_build.specs.Keeping.{kept_file}
-use Rattle.tm_build.specs.Listed.{StandsAs}
-use Rattle.tm_build.specs.Building.{Backup, base_at, IsSound}
-use Rattle.tm_build.specs.Driving.{base_child}
-use Rattle.tm_build.proofs.Finishes.{base_goes_down}
+use Rattle.tm_copy.specs.Keeping.{kept_file}
+use Rattle.tm_copy.specs.Listed.{StandsAs}
+use Rattle.tm_copy.specs.Building.{Backup, base_at, IsSound}
+use Rattle.tm_copy.specs.Driving.{base_child}
+use Rattle.tm_copy.proofs.Finishes.{base_goes_down}
 use Rattle.tm_backup.specs.Growing.{Suits}
-use Rattle.tm_backup.specs.Plans.{IsFileOf, kind_blocks, IsPlanFor}
+use Rattle.tm_backup.specs.EntryPlans.{IsFileOf, kind_blocks, IsPlanFor}
 use Rattle.tm_backup.specs.Steps.{volume_bytes}
 use Rattle.tm_backup.specs.Taking.{view_on, prev_on, backup_of}
-use Rattle.tm_backup.specs.declared.stage.Plan.TheVariants as plan
+use Rattle.tm_backup.specs.declared.stage.EntryPlan.TheVariants as plan
 use Rattle.tm_backup.proofs.Keeping.{sound_of, kept_was, none_was, file_kept, file_new, link_here}
 use Rattle.tm_backup.proofs.Taking.{taken_at_folder}
 
@@ -65,14 +66,14 @@ module _ (told : Type 0) (s : Held) (v : Seen) (l : Log) (p : Names) (base root 
   new_blocks a stamp size h = ap (λ (k : Bool). if k then [] else blob_len size ∷ []) (none_was b sound_here p stamp (kept_here stamp None h))
 
   pub new_plan : (more : ℕ → List ℕ) (a : Attrs) (stamp size : ℕ) (blob : Blob) → StandsAs (view_on v bytes) p (kind.File a stamp size) → kept_file s.nodes base stamp ≡ None
-      → blob.length ≡ size → size ≤ 16777216 → length blob.blocks ≡ blob_len size → (told → IfSome (item_at (tree_on v (volume_bytes l)) p) (λ e. bytes_in blob.blocks more 0 blob.length ≡ bytes_of e))
+      → blob.length ≡ size → size ≤ max_file_bytes → length blob.blocks ≡ blob_len size → (told → IfSome (item_at (tree_on v (volume_bytes l)) p) (λ e. bytes_in blob.blocks more 0 blob.length ≡ bytes_of e))
       → IsPlanFor told b more p (plan.File a stamp blob)
   new_plan more a stamp size blob stands h long small many holds = (
     stands.0,
     file_new s files root (view_on v bytes) sound_here p a stamp stands.0 stands.1 (kept_here stamp None h),
     kept_here stamp None h,
     long ∙ sym stands.2,
-    subst (λ k. k ≤ 16777216) (sym long) small,
+    subst (λ k. k ≤ max_file_bytes) (sym long) small,
     many ∙ ap blob_len (sym long),
     λ t.
         let there : item_at (tree_on v (volume_bytes l)) p ≡ Some (item.File a stamp stands.0) = ap (λ (x : ℕ → List ℕ). item_at (tree_on v x) p) (sym (suits.read t)) ∙ view_item v.fixed (tree_on v bytes) p (item.File a stamp stands.0) stands.1 in

@@ -3,7 +3,7 @@ use Rattle.std.proofs.Common.{◌≡◌, ℕ, List, ◌++◌, length, take, drop
 use Rattle.std.proofs.lemmas.List.{take-append-le, take_all}
 use Rattle.tm_tree.specs.declared.item.Item.{Item}
 use Rattle.tm_tree.specs.Items.{bytes_of}
-use Rattle.tm_backup.specs.Plans.{IsFileOf}
+use Rattle.tm_backup.specs.EntryPlans.{IsFileOf}
 
 -- a part from the front that is as long as a file is the file's bytes
 pub whole_read : (o : Option Item) (size old len : ℕ) (read into items : List ℕ) → IsFileOf size o → old ≡ size → len ≡ size → length into ≡ size

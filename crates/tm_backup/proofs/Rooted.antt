@@ -4,6 +4,7 @@ use Rattle.std.specs.List.{count_by}
 use Rattle.std.proofs.lemmas.List.{length-map}
 use Rattle.std.proofs.lemmas.List.Sums.{length-filter, count_by-le-length}
 use Rattle.tm_base.specs.Paths.{Names}
+use Rattle.tm_base.specs.Limits.{max_items}
 use Rattle.tm_tree.specs.declared.item.Item.{Item}
 use Rattle.tm_tree.specs.Items.{is_folder}
 use Rattle.tm_tree.specs.Trees.{Tree, beneath}
@@ -11,8 +12,8 @@ use Rattle.tm_tree.specs.Views.{is_hidden, hidden_paths}
 use Rattle.tm_tree.specs.States.{base}
 use Rattle.tm_tree.specs.Copies.{LabelledTree}
 use Rattle.tm_graph.specs.Nodes.{Nodes, node}
-use Rattle.tm_build.specs.Copying.{node_under}
-use Rattle.tm_build.proofs.Ways.{number_here}
+use Rattle.tm_copy.specs.Copying.{node_under}
+use Rattle.tm_copy.proofs.Ways.{number_here}
 use Rattle.tm_store_records.specs.Held.{Held, IsWhole, store_on, files_of}
 use Rattle.tm_volume.specs.Seen.{Seen, tree_on}
 use Rattle.tm_volume_records.specs.Records.{most_number}
@@ -67,10 +68,10 @@ walked_counted v bytes p old walked few root none is =
     let folder = λ (row : Names × Item). is_folder row.1 in
     let many : length (folders_from t p) ≡ count_by folder t =
     ap (λ (q : Names). length (folders_from t q)) root ∙ ap length (folders_all t) ∙ length-map (filter folder t) (λ (row : Names × Item). row.0) ∙ length-filter folder t in
-    let low : count_by folder t ≤ 65536 = omega (arith, count_by-le-length folder t, view_few v bytes, few) in
+    let low : count_by folder t ≤ max_items = omega (arith, count_by-le-length folder t, view_few v bytes, few) in
     still (count_by folder t) low (is ∙ (λ i. counted (none i) (many i)))
   where
-    still : (n : ℕ) → n ≤ 65536 → counted walked 0 ≡ counted 0 n → walked ≡ n
+    still : (n : ℕ) → n ≤ max_items → counted walked 0 ≡ counted 0 n → walked ≡ n
     still n low same = omega (arith, low, same)
 
 pub walked_all : (v : Seen) (bytes : ℕ → List ℕ) (p : Names) (old walked : ℕ) → length (tree_on v bytes) ≤ most_number → p ≡ [] → old ≡ 0 → walked ≡ counted old (length (folders_from (view_on v bytes) p))

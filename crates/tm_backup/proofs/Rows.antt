@@ -16,7 +16,7 @@ use Rattle.tm_tree.specs.Views.{hides, hidden_paths, is_hidden, view}
 use Rattle.tm_tree.proofs.CopyProofs.{at_is, is_prefix_trans}
 use Rattle.tm_tree.proofs.TreesKept.{parent_below, empty_is}
 use Rattle.tm_tree.proofs.ViewsKept.{item_at-view}
-use Rattle.tm_build.proofs.Naming.{found_rows, child_is, parent_is, last_is, no_root}
+use Rattle.tm_copy.proofs.Naming.{found_rows, child_is, parent_is, last_is, no_root}
 use Rattle.tm_backup.specs.Shown.{is_out, shown_rows}
 
 -- the row of an item that stands at a path

@@ -17,7 +17,7 @@ use Rattle.tm_image.specs.Seen.{Stands}
 use Rattle.tm_volume.specs.Seen.{Seen, StandsOn}
 use Rattle.tm_store_records.specs.Laws.{HeldReads}
 use Rattle.tm_store_records.specs.States.{StoredStore, LeavesOneStore}
-use Rattle.tm_store_records.specs.Held.{Held, IsWhole, store_on, stored_on}
+use Rattle.tm_store_records.specs.Held.{Held, IsWhole, store_on, store_stored_on}
 use Rattle.tm_store.specs.Answers.{UnlessFault, OnRefusal}
 use Rattle.tm_backup.specs.Steps.{Standing, MayGo, volume_bytes, store_bytes, Ran, Went}
 use Rattle.tm_backup.proofs.Looks.{kept_listed, ready_listed, stands_listed, listed_then}
@@ -43,7 +43,7 @@ module _ (told : Type 0) where
 
     pub ran_read : HeldReads → Ran told v v s s l m
     ran_read reads = record {
-      runs = λ t. Runs-stays Store (LeavesOneStore (stored_on s (store_bytes l))) l l m (Runs-none Store _ l) (steps t) (λ image left. reads s (disk Store (now l)) image may.whole (may.standing t).image_on left);
+      runs = λ t. Runs-stays Store (LeavesOneStore (store_stored_on s (store_bytes l))) l l m (Runs-none Store _ l) (steps t) (λ image left. reads s (disk Store (now l)) image may.whole (may.standing t).image_on left);
       volume = refl;
       size = refl;
     }
@@ -72,7 +72,7 @@ module _ (told : Type 0) where
 
   module _ (v w : Seen) (s t : Held) (l m : Log) (a b : ℕ) (may : MayGo told v s (now l) a b) (ran : Ran told v w s t l m) where
     beside : told → Beside Store (λ d. d ≡ disk Store (now m)) (now l) (now m)
-    beside y = Runs-ends Store (LeavesOneStore (stored_on s (store_bytes l))) l m (may.standing y).apart (ran.runs y)
+    beside y = Runs-ends Store (LeavesOneStore (store_stored_on s (store_bytes l))) l m (may.standing y).apart (ran.runs y)
 
     -- the volume's disk is as it was
     pub volume_same : told → volume_bytes m ≡ volume_bytes l
@@ -93,12 +93,12 @@ module _ (told : Type 0) where
         };
       }
 
-      stored_same : told → stored_on t (store_bytes m) ≡ stored_on s (store_bytes l)
+      stored_same : told → store_stored_on t (store_bytes m) ≡ store_stored_on s (store_bytes l)
       stored_same y = λ i. record { store = went.state y i; running = ap (λ (h : Held). h.stored) went.same i }
 
       pub ran_then : (x : Seen) (u : Held) (n : Log) → Ran told w x t u m n → Ran told v x s u l n
       ran_then x u n more = record {
-        runs = λ y. Runs-then Store (LeavesOneStore (stored_on s (store_bytes l))) l m n (ran.runs y) (subst (λ (k : StoredStore). Runs Store (LeavesOneStore k) m n) (stored_same y) (more.runs y));
+        runs = λ y. Runs-then Store (LeavesOneStore (store_stored_on s (store_bytes l))) l m n (ran.runs y) (subst (λ (k : StoredStore). Runs Store (LeavesOneStore k) m n) (stored_same y) (more.runs y));
         volume = listed_then v w x ran.volume more.volume;
         size = more.size ∙ ran.size;
       }

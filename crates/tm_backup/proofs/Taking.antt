@@ -13,7 +13,7 @@ use Rattle.tm_tree.specs.Trees.{Tree, IsTree, item_at, is_some_folder, folder_at
 use Rattle.tm_tree.specs.Copies.{LabelledTree, bare}
 use Rattle.tm_tree.proofs.AtPaths.{trees_equal}
 use Rattle.tm_tree.proofs.CopyProofs.{at_is}
-use Rattle.tm_build.specs.Stamps.{alike}
+use Rattle.tm_copy.specs.Stamps.{alike}
 use Rattle.tm_backup.specs.Laws.{TakenTells, TakenIs}
 use Rattle.tm_backup.specs.Taking.{taken, as_taken}
 

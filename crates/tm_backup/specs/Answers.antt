@@ -1,18 +1,9 @@
 -- What the calls of a backup answer.
 use Rattle.std.specs.Prelude.{◌≡◌, ℕ, ◌+◌, Result, Ok, Err, Some, None, List}
 use Rattle.std.specs.List.{sum}
-use Rattle.tm_world.specs.declared.world.Part.{Part}
-use Rattle.tm_world.specs.declared.world.Part.TheVariants.{Volume as VolumePart, Store as StorePart}
-use Rattle.tm_base.specs.declared.refused.Side.{Side}
-use Rattle.tm_base.specs.declared.refused.Side.TheVariants.{Volume, Store}
 use Rattle.tm_base.specs.declared.refused.LineFault.{LineFault}
 use Rattle.tm_base.specs.declared.refused.LineFault.TheVariants.{Refused, Fault, Memory}
 use Rattle.tm_backup.specs.Walk.{first_full}
-
--- whose count of faults tells of this side
-abbrev pub part_of : Side → Part
-part_of Volume = VolumePart
-part_of Store = StorePart
 
 -- so many blocks are staged, each where it fits, or the first is refused that doesn't; `free` are free before, and `left` after,
 -- and t are the table's

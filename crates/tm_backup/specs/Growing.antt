@@ -2,6 +2,7 @@
 use Rattle.std.specs.Prelude.{◌≡◌, ℕ, ◌+◌, ◌-◌, ◌^◌, ◌<◌, ◌≤◌, min, true, is_some, Option, Some, List, ◌++◌, length}
 use Rattle.std.specs.List.{All, sum_by, flat_map}
 use Rattle.tm_base.specs.Paths.{Names}
+use Rattle.tm_base.specs.Limits.{max_file_bytes}
 use Rattle.tm_world.specs.declared.bytes.Blob.{Blob}
 use Rattle.tm_world.specs.Log.{Log}
 use Rattle.tm_blockmap.specs.Counts.{times}
@@ -10,9 +11,9 @@ use Rattle.tm_tree.specs.Trees.{Tree, beneath}
 use Rattle.tm_tree.specs.Copies.{LabelledTree}
 use Rattle.tm_graph.specs.Nodes.{Nodes, node}
 use Rattle.tm_store_records.specs.Held.{Held}
-use Rattle.tm_build.specs.Copying.{node_under}
-use Rattle.tm_build.specs.Building.{Backup, next, AreNew}
-use Rattle.tm_build.specs.Making.{Making}
+use Rattle.tm_copy.specs.Copying.{node_under}
+use Rattle.tm_copy.specs.Building.{Backup, next, AreNew}
+use Rattle.tm_copy.specs.Making.{Making}
 use Rattle.tm_backup.specs.Steps.{volume_bytes}
 use Rattle.tm_backup.specs.Walk.{folders, staging_in}
 
@@ -46,7 +47,7 @@ blocks_in blobs k = sum_by (λ x. times k x.1.blocks) blobs
 -- file's bytes
 pub record IsFilled (told : Type 0) (top : ℕ) (bytes fresh : ℕ → List ℕ) (x : ℕ × Blob) : Type 0 where
   pub below : x.0 < top
-  pub small : x.1.length ≤ 16777216
+  pub small : x.1.length ≤ max_file_bytes
   pub many : length x.1.blocks ≡ blob_len x.1.length
   pub holds : told → bytes_in x.1.blocks bytes 0 x.1.length ≡ fresh x.0
 

@@ -5,9 +5,9 @@ use Rattle.tm_base.specs.Paths.{Names}
 use Rattle.tm_tree.specs.Listings.{list_rows}
 use Rattle.tm_tree.specs.Trees.{Tree, IsTree, folder_at}
 use Rattle.tm_tree.specs.Copies.{LabelledTree, bare}
-use Rattle.tm_build.specs.Stamps.{StampsTell}
+use Rattle.tm_copy.specs.Stamps.{StampsTell}
 use Rattle.tm_backup.specs.Growing.{folders_from}
-use Rattle.tm_backup.specs.Plans.{row_head, folder_names}
+use Rattle.tm_backup.specs.EntryPlans.{row_head, folder_names}
 use Rattle.tm_backup.specs.Taking.{as_taken}
 
 -- the folders at and beneath p in path order are p, and then those at and beneath each folder in it, by name

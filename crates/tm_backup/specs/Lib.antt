@@ -3,7 +3,7 @@ pub mod Taking
 pub mod Answers
 pub mod Steps
 pub mod Shown
-pub mod Plans
+pub mod EntryPlans
 pub mod Growing
 pub mod Walking
 pub mod Laws

@@ -9,7 +9,7 @@ use Rattle.tm_graph.specs.Nodes.{IsGraph}
 use Rattle.tm_image.specs.Seen.{Stands}
 use Rattle.tm_volume.specs.Seen.{Seen, IsKept, IsReady, StandsOn}
 use Rattle.tm_store_records.specs.States.{LeavesOneStore}
-use Rattle.tm_store_records.specs.Held.{Held, IsWhole, store_on, stored_on}
+use Rattle.tm_store_records.specs.Held.{Held, IsWhole, store_on, store_stored_on}
 
 -- both sides stand, at different paths
 pub record Standing (v : Seen) (store : Held) (outside : Outside) : Type 0 where
@@ -36,7 +36,7 @@ store_bytes log = (disk Store (now log)).bytes
 -- whatever it answers: of the outside only the store's disk changes, on which a stop leaves the store; of the volume only
 -- how many folders were listed; and the store keeps its size
 pub record Ran (told : Type 0) (v w : Seen) (old new : Held) (start end : Log) : Type 0 where
-  pub runs : told → Runs Store (LeavesOneStore (stored_on old (store_bytes start))) start end
+  pub runs : told → Runs Store (LeavesOneStore (store_stored_on old (store_bytes start))) start end
   pub volume : w ≡ record v { looks = w.looks }
   pub size : length new.image.used ≡ length old.image.used
 

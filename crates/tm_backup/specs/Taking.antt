@@ -8,10 +8,10 @@ use Rattle.tm_tree.specs.Views.{view}
 use Rattle.tm_store_records.specs.declared.snapshot.Snapshot.{Snapshot}
 use Rattle.tm_store_records.specs.Held.{Held}
 use Rattle.tm_volume.specs.Seen.{Seen, tree_on}
-use Rattle.tm_build.specs.Stamps.{alike}
-use Rattle.tm_build.specs.Reading.{labelled}
-use Rattle.tm_build.specs.Copying.{tree_under}
-use Rattle.tm_build.specs.Building.{Backup}
+use Rattle.tm_copy.specs.Stamps.{alike}
+use Rattle.tm_copy.specs.Reading.{labelled}
+use Rattle.tm_copy.specs.Copying.{tree_under}
+use Rattle.tm_copy.specs.Building.{Backup}
 
 -- what the walk takes an item for: the base's where that is alike
 abbrev pub taken : Option Item → Item → Item

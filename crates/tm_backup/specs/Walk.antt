@@ -9,7 +9,7 @@ use Rattle.tm_tree.specs.Items.{is_file, is_folder, bytes_of}
 use Rattle.tm_tree.specs.Trees.{Tree, item_at, children}
 use Rattle.tm_tree.specs.Copies.{LabelledTree, bare}
 use Rattle.tm_chain.specs.Blob.{blob_len}
-use Rattle.tm_build.specs.Stamps.{alike}
+use Rattle.tm_copy.specs.Stamps.{alike}
 
 -- the paths of the folders, in path order
 abbrev pub folders : Tree → List Names

@@ -1,27 +1,27 @@
 //! The whole backup.
-ghost use Rattle.std.specs.Prelude.{◌≡◌, ◌≤◌, ◌+◌, ◌-◌, ℕ, List, [], Some, Err, IfOk, length, count_by, sum_by};
-ghost use Rattle.tm_base.specs.declared.refused.Side.{Side as Named};
+ghost use Rattle.std.specs.Prelude.{◌≡◌, ◌≤◌, ◌+◌, ◌-◌, ℕ, List, [], Some, IfOk, length, count_by, sum_by};
 ghost use Rattle.tm_blockmap.specs.Counts.{times};
 ghost use Rattle.tm_fit.specs.Fit.{Fits};
 ghost use Rattle.tm_image.specs.Room.{free_of};
 ghost use Rattle.tm_store.specs.Answers.{UnlessFault};
-ghost use Rattle.tm_store_records.specs.Built.{IsBuilt, completed};
+ghost use Rattle.tm_store_records.specs.Built.{IsBuilt, store_completed};
 ghost use Rattle.tm_store_records.specs.Held.{store_on};
 ghost use Rattle.tm_store_records.specs.Room.{store_blocks};
 ghost use Rattle.tm_tree.specs.Items.{is_folder};
 ghost use Rattle.tm_tree.specs.States.{backed_up, base};
 ghost use Rattle.tm_volume.specs.Seen.{volume_on};
-ghost use Rattle.tm_world.specs.Faults.{NeverLess, Rose};
+ghost use Rattle.tm_world.specs.Faults.{NeverLess, Blames};
 ghost use Rattle.tm_world.specs.Log.{now};
-ghost use Rattle.tm_backup.specs.Answers.{Stages, part_of};
+ghost use Rattle.tm_backup.specs.Answers.{Stages};
 ghost use Rattle.tm_backup.specs.Steps.{MayGo, Ran, Went, store_bytes, volume_bytes};
 ghost use Rattle.tm_backup.specs.Taking.{base_root, view_on};
 ghost use Rattle.tm_backup.specs.Walk.{staging};
+ghost use Rattle.tm_base.specs.Limits.{max_items};
 
 use crate::walk::{Progress, walk_folder};
 use std::alloc::Global;
 use tm_base::{LineFault, Path};
-use tm_build::Builder;
+use tm_copy::Builder;
 use tm_graph::Built;
 use tm_store::Store;
 use tm_tree::NodeId;
@@ -59,12 +59,12 @@ pub fn copy_volume<W: World>(
     ensures stages { W.told → let s = store_on store.old (store_bytes (W.log world.old)) in let v = volume_on volume.old (volume_bytes (W.log world.old)) in
         Stages (store_blocks store.old.machine store.old.snapshots store.old.nodes) (free_of store.old.image) (free_of store.new.image) (staging (base s v.id) (view_on volume.old (volume_bytes (W.log world.old)))) result }
     ensures copied { W.told → let s = store_on store.old (store_bytes (W.log world.old)) in let v = volume_on volume.old (volume_bytes (W.log world.old)) in
-        Fits (Some v) (Some s) → IfOk result (λ c. (date : ℕ) → completed store.new c.built date v.name v.id (record { generation = v.generation; cursor = v.contents.next - 1 }) (store_bytes (W.log world.new)) ≡ backed_up s v date) }
+        Fits (Some v) (Some s) → IfOk result (λ c. (date : ℕ) → store_completed store.new c.built date v.name v.id (record { generation = v.generation; cursor = v.contents.next - 1 }) (store_bytes (W.log world.new)) ≡ backed_up s v date) }
     ensures walked { IfOk result (λ c. (bytes : ℕ → List ℕ) → c.walked ≡ count_by (λ row. is_folder row.1) (view_on volume.old bytes)) }
-    ensures few { IfOk result (λ c. length c.built.nodes ≤ 65536) }
+    ensures few { IfOk result (λ c. length c.built.nodes ≤ max_items) }
     ensures blocks { W.blocks world.new ≡ W.blocks world.old }
     ensures never_less { NeverLess (W.faults world.old) (W.faults world.new) }
-    ensures fault { (side : Named) → result ≡ Err (LineFault.Fault side) → Rose (W.faults world.old (part_of side)) (W.faults world.new (part_of side)) }
+    ensures fault { Blames result (W.faults world.old) (W.faults world.new) }
 {
     items_keep_bounds();
     let base = base_of(store, volume.info().id);

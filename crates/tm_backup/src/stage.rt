@@ -1,26 +1,23 @@
 //! The files of a folder, whose bytes are staged.
-ghost use Rattle.std.specs.Prelude.{◌≡◌, ◌≤◌, ◌+◌, ◌∷◌, ◌++◌, [], ℕ, List, Option, true, false, Some, Err, IfOk, IfSome, length, map};
+ghost use Rattle.std.specs.Prelude.{◌≡◌, ◌≤◌, ◌+◌, ◌∷◌, ◌++◌, [], ℕ, List, Option, false, Some, Err, IfOk, IfSome, length, map};
 ghost use Rattle.tm_base.specs.declared.refused.Refused.{Refused};
-ghost use Rattle.tm_base.specs.declared.refused.Side.{Side as Named};
+ghost use Rattle.tm_base.specs.Limits.{max_file_bytes};
 ghost use Rattle.tm_blockmap.specs.Counts.{times};
 ghost use Rattle.tm_image.specs.Room.{free_of};
 ghost use Rattle.tm_store.specs.Answers.{UnlessFault};
 ghost use Rattle.tm_store_records.specs.Room.{store_blocks};
-ghost use Rattle.tm_tree.specs.Items.{bytes_of, is_file};
+ghost use Rattle.tm_tree.specs.Items.{bytes_of};
 ghost use Rattle.tm_tree.specs.Listings.{list_rows};
 ghost use Rattle.tm_tree.specs.Copies.{bare};
 ghost use Rattle.tm_tree.specs.Trees.{item_at};
-ghost use Rattle.tm_tree.specs.declared.item.Item.{Item};
-ghost use Rattle.tm_build.specs.Building.{base_at};
-ghost use Rattle.tm_build.specs.Copying.{node_under};
-ghost use Rattle.tm_build.specs.Listed.{StandsAs};
+ghost use Rattle.tm_copy.specs.Listed.{StandsAs};
 ghost use Rattle.tm_chain.specs.Blob.{blob_len, bytes_in};
 ghost use Rattle.tm_volume.specs.Seen.{IsReady, tree_on};
-ghost use Rattle.tm_world.specs.Faults.{NeverLess, Rose};
+ghost use Rattle.tm_world.specs.Faults.{NeverLess, Blames};
 ghost use Rattle.tm_world.specs.Log.{Steps, now};
-ghost use Rattle.tm_backup.specs.Answers.{Stages, part_of};
+ghost use Rattle.tm_backup.specs.Answers.{Stages};
 ghost use Rattle.tm_backup.specs.Growing.{Suits};
-ghost use Rattle.tm_backup.specs.Plans.{ArePlanned, IsFileOf, IsPlanFor, IsPlanned, is_folder_plan, kind_blocks, owed, plan_blocks, plan_head, row_blocks, row_head};
+ghost use Rattle.tm_backup.specs.EntryPlans.{ArePlanned, IsFileOf, IsPlanFor, IsPlanned, is_folder_plan, kind_blocks, owed, plan_blocks, plan_head, row_blocks, row_head};
 ghost use Rattle.tm_backup.specs.Steps.{MayGo, Ran, Went, store_bytes, volume_bytes};
 ghost use Rattle.tm_backup.specs.Taking.{backup_of, prev_on, view_on};
 ghost use Rattle.tm_backup.specs.Walk.{staging_in};
@@ -28,8 +25,9 @@ ghost use Rattle.tm_backup.specs.Walking.{MayEnter, MayEnterAll};
 
 use crate::view::child_of;
 use std::alloc::Global;
+use tm_base::limits::MAX_FILE_BYTES;
 use tm_base::{LineFault, Name, Path};
-use tm_build::{base_child, kept_file};
+use tm_copy::{base_child, kept_file};
 use tm_store::Store;
 use tm_store_records::held_reads;
 use tm_tree::{Attrs, ListKind, ListRow, NodeId};
@@ -37,12 +35,9 @@ use tm_volume::Volume;
 use tm_volume::laws::items_keep_bounds;
 use tm_world::{Blob, Bytes, Side, World};
 
-/// The most bytes of a file.
-const MOST_BYTES: u64 = 16_777_216;
-
 /// What becomes of an entry of a folder.
 #[derive(Drop)]
-pub(crate) enum Plan {
+pub(crate) enum EntryPlan {
     /// The base's file is kept.
     Kept(NodeId),
     /// A file is made, whose bytes are staged.
@@ -69,13 +64,13 @@ pub(crate) enum Plan {
 
 /// An entry of a folder.
 #[derive(Drop)]
-pub(crate) struct Planned {
+pub(crate) struct PlannedEntry {
     /// Its name.
     pub name: Name,
     /// The base's node there.
     pub base: Option<NodeId>,
     /// What becomes of it.
-    pub plan: Plan,
+    pub plan: EntryPlan,
 }
 
 /// Stages the files of a folder that the base doesn't have, by name.
@@ -87,7 +82,7 @@ pub(crate) fn stage_folder<W: World>(
     path: &Path,
     base: Option<NodeId>,
     rows: Vec<ListRow>,
-) -> Result<Vec<Planned>, LineFault>
+) -> Result<Vec<PlannedEntry>, LineFault>
     requires may { MayGo W.told volume.now store.old (now (W.log world.old)) (W.blocks world.old Side.Volume) (W.blocks world.old Side.Store) }
     requires rows { (bytes : ℕ → List ℕ) → list_rows (view_on volume.now bytes) path.now ≡ rows.items }
     ensures ran { Ran W.told volume.now volume.now store.old store.new (W.log world.old) (W.log world.new) }
@@ -101,7 +96,7 @@ pub(crate) fn stage_folder<W: World>(
     ensures owed { IfOk result (λ planned. (k : ℕ) → times k store.new.staged ≡ times k store.old.staged + owed planned.items k) }
     ensures blocks { W.blocks world.new ≡ W.blocks world.old }
     ensures never_less { NeverLess (W.faults world.old) (W.faults world.new) }
-    ensures fault { (side : Named) → result ≡ Err (LineFault.Fault side) → Rose (W.faults world.old (part_of side)) (W.faults world.new (part_of side)) }
+    ensures fault { Blames result (W.faults world.old) (W.faults world.new) }
 {
     items_keep_bounds();
     let mut planned = Vec::new(alloc);
@@ -121,7 +116,7 @@ fn plan_row<W: World>(
     path: &Path,
     base: Option<NodeId>,
     row: ListRow,
-) -> Result<Planned, LineFault>
+) -> Result<PlannedEntry, LineFault>
     requires may { MayGo W.told volume.now store.old (now (W.log world.old)) (W.blocks world.old Side.Volume) (W.blocks world.old Side.Store) }
     requires row { (bytes : ℕ → List ℕ) → StandsAs (view_on volume.now bytes) (path.now ++ row.name ∷ []) row.kind }
     ensures ran { Ran W.told volume.now volume.now store.old store.new (W.log world.old) (W.log world.new) }
@@ -135,25 +130,25 @@ fn plan_row<W: World>(
     ensures owed { IfOk result (λ planned. (k : ℕ) → times k store.new.staged ≡ times k store.old.staged + times k (plan_blocks planned.plan)) }
     ensures blocks { W.blocks world.new ≡ W.blocks world.old }
     ensures never_less { NeverLess (W.faults world.old) (W.faults world.new) }
-    ensures fault { (side : Named) → result ≡ Err (LineFault.Fault side) → Rose (W.faults world.old (part_of side)) (W.faults world.new (part_of side)) }
+    ensures fault { Blames result (W.faults world.old) (W.faults world.new) }
 {
     items_keep_bounds();
     let ListRow { name, kind } = row;
     let base = base_child(store.graph(), base, &name);
     match kind {
-        ListKind::Folder => Ok(Planned {
+        ListKind::Folder => Ok(PlannedEntry {
             name,
             base,
-            plan: Plan::Folder,
+            plan: EntryPlan::Folder,
         }),
         ListKind::Link {
             attrs,
             stamp,
             target,
-        } => Ok(Planned {
+        } => Ok(PlannedEntry {
             name,
             base,
-            plan: Plan::Link {
+            plan: EntryPlan::Link {
                 attrs,
                 stamp,
                 target,
@@ -169,7 +164,7 @@ fn plan_row<W: World>(
             let plan = plan_file(
                 alloc, world, volume, store, &place, node, attrs, stamp, size,
             )?;
-            Ok(Planned { name, base, plan })
+            Ok(PlannedEntry { name, base, plan })
         }
     }
 }
@@ -185,7 +180,7 @@ fn plan_file<W: World>(
     attrs: Attrs,
     stamp: u64,
     size: u64,
-) -> Result<Plan, LineFault>
+) -> Result<EntryPlan, LineFault>
     requires may { MayGo W.told volume.now store.old (now (W.log world.old)) (W.blocks world.old Side.Volume) (W.blocks world.old Side.Store) }
     requires file { (bytes : ℕ → List ℕ) → StandsAs (view_on volume.now bytes) place.now (ListKind.File attrs stamp size) }
     ensures ran { Ran W.told volume.now volume.now store.old store.new (W.log world.old) (W.log world.new) }
@@ -198,14 +193,14 @@ fn plan_file<W: World>(
     ensures owed { IfOk result (λ plan. (k : ℕ) → times k store.new.staged ≡ times k store.old.staged + times k (plan_blocks plan)) }
     ensures blocks { W.blocks world.new ≡ W.blocks world.old }
     ensures never_less { NeverLess (W.faults world.old) (W.faults world.new) }
-    ensures fault { (side : Named) → result ≡ Err (LineFault.Fault side) → Rose (W.faults world.old (part_of side)) (W.faults world.new (part_of side)) }
+    ensures fault { Blames result (W.faults world.old) (W.faults world.new) }
 {
     items_keep_bounds();
     match kept_file(store.graph(), base, stamp) {
-        Some(node) => Ok(Plan::Kept(node)),
+        Some(node) => Ok(EntryPlan::Kept(node)),
         None => {
             let blob = stage_file(alloc, world, volume, store, place, size)?;
-            Ok(Plan::File { attrs, stamp, blob })
+            Ok(EntryPlan::File { attrs, stamp, blob })
         }
     }
 }
@@ -226,12 +221,12 @@ fn stage_file<W: World>(
     ensures stages { Stages (store_blocks store.old.machine store.old.snapshots store.old.nodes) (free_of store.old.image) (free_of store.new.image) (blob_len size ∷ []) result }
     ensures holds { W.told → IfOk result (λ blob. IfSome (item_at (tree_on volume.now (volume_bytes (W.log world.old))) place.now) (λ e. bytes_in blob.blocks (store_bytes (W.log world.new)) 0 blob.length ≡ bytes_of e)) }
     ensures length { IfOk result (λ blob. blob.length ≡ size) }
-    ensures small { IfOk result (λ blob. size ≤ 16777216) }
+    ensures small { IfOk result (λ blob. size ≤ max_file_bytes) }
     ensures many { IfOk result (λ blob. length blob.blocks ≡ blob_len size) }
     ensures staged { IfOk result (λ blob. store.new.staged ≡ store.old.staged ++ blob.blocks) }
     ensures blocks { W.blocks world.new ≡ W.blocks world.old }
     ensures never_less { NeverLess (W.faults world.old) (W.faults world.new) }
-    ensures fault { (side : Named) → result ≡ Err (LineFault.Fault side) → Rose (W.faults world.old (part_of side)) (W.faults world.new (part_of side)) }
+    ensures fault { Blames result (W.faults world.old) (W.faults world.new) }
 {
     held_reads();
     let bytes = read_file(alloc, world, volume, place, size)?;
@@ -250,14 +245,14 @@ fn read_file<W: World>(
     requires file { (bytes : ℕ → List ℕ) → IsFileOf size (item_at (tree_on volume.now bytes) place.now) }
     ensures bytes { W.told → IfOk result (λ read. IfSome (item_at (tree_on volume.now (volume_bytes (W.log world.old))) place.now) (λ e. read ≡ bytes_of e)) }
     ensures length { IfOk result (λ read. length read ≡ size) }
-    ensures small { IfOk result (λ read. size ≤ 16777216) }
+    ensures small { IfOk result (λ read. size ≤ max_file_bytes) }
     ensures refused { (why : Refused) → result ≡ Err (LineFault.Refused why) → ⊥ }
     ensures steps { W.told → Steps (W.log world.old) (W.log world.new) (now (W.log world.old)) }
     ensures blocks { W.blocks world.new ≡ W.blocks world.old }
     ensures never_less { NeverLess (W.faults world.old) (W.faults world.new) }
-    ensures fault { (side : Named) → result ≡ Err (LineFault.Fault side) → Rose (W.faults world.old (part_of side)) (W.faults world.new (part_of side)) }
+    ensures fault { Blames result (W.faults world.old) (W.faults world.new) }
 {
-    if size > MOST_BYTES {
+    if size > MAX_FILE_BYTES {
         return Err(LineFault::Memory);
     }
     let mut bytes = vec![in alloc; 0u8; size as usize]?;

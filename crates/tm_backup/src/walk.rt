@@ -1,26 +1,25 @@
 //! The walk: folder by folder, each before what is beneath it.
-ghost use Rattle.std.specs.Prelude.{◌≡◌, ◌≤◌, ◌∷◌, ◌++◌, [], ℕ, List, Option, true, Err, IfOk, OnOk, length, map};
+ghost use Rattle.std.specs.Prelude.{◌≡◌, ◌≤◌, ◌∷◌, ◌++◌, [], ℕ, List, Option, true, IfOk, OnOk, length, map};
 ghost use Rattle.std.specs.List.{flat_map};
-ghost use Rattle.tm_base.specs.declared.refused.Side.{Side as Named};
 ghost use Rattle.tm_blockmap.specs.Counts.{times};
 ghost use Rattle.tm_image.specs.Room.{free_of};
 ghost use Rattle.tm_store.specs.Answers.{UnlessFault};
 ghost use Rattle.tm_store_records.specs.Room.{store_blocks};
 ghost use Rattle.tm_tree.specs.Trees.{folder_at};
-ghost use Rattle.tm_world.specs.Faults.{NeverLess, Rose};
+ghost use Rattle.tm_world.specs.Faults.{NeverLess, Blames};
 ghost use Rattle.tm_world.specs.Log.{now};
-ghost use Rattle.tm_backup.specs.Answers.{Stages, part_of};
+ghost use Rattle.tm_backup.specs.Answers.{Stages};
 ghost use Rattle.tm_backup.specs.Growing.{Suits, counted, folders_from, staging_from};
-ghost use Rattle.tm_backup.specs.Plans.{owed};
+ghost use Rattle.tm_backup.specs.EntryPlans.{owed};
 ghost use Rattle.tm_backup.specs.Steps.{MayGo, Ran, Went};
 ghost use Rattle.tm_backup.specs.Taking.{prev_on, view_on};
 ghost use Rattle.tm_backup.specs.Walking.{EntriesGrow, EntryGrows, FolderGrows, IsBegun, MayEnter, MayEnterAll, entry_folders, entry_staging};
 
-use crate::stage::{Plan, Planned, stage_folder};
+use crate::stage::{EntryPlan, PlannedEntry, stage_folder};
 use crate::view::{Folder, child_of, list_view};
 use std::alloc::Global;
 use tm_base::{LineFault, Name, Path};
-use tm_build::Builder;
+use tm_copy::Builder;
 use tm_store::Store;
 use tm_tree::{Child, Entries, NodeId};
 use tm_volume::Volume;
@@ -60,7 +59,7 @@ pub(crate) fn walk_folder<W: World>(
     ensures walked { (bytes : ℕ → List ℕ) → OnOk result (counted progress.new.walked 0 ≡ counted progress.old.walked (length (folders_from (view_on volume.old bytes) path.now))) }
     ensures blocks { W.blocks world.new ≡ W.blocks world.old }
     ensures never_less { NeverLess (W.faults world.old) (W.faults world.new) }
-    ensures fault { (side : Named) → result ≡ Err (LineFault.Fault side) → Rose (W.faults world.old (part_of side)) (W.faults world.new (part_of side)) }
+    ensures fault { Blames result (W.faults world.old) (W.faults world.new) }
 {
     items_keep_bounds();
     let Folder { attrs, rows } = list_view(alloc, volume, path)?;
@@ -85,7 +84,7 @@ fn walk_entries<W: World>(
     progress: &mut Progress,
     path: &Path,
     base: Option<NodeId>,
-    planned: Vec<Planned>,
+    planned: Vec<PlannedEntry>,
 ) -> Result<Vec<Child>, LineFault>
     requires may { MayGo W.told volume.old store.old (now (W.log world.old)) (W.blocks world.old Side.Volume) (W.blocks world.old Side.Store) }
     requires enter { MayEnterAll volume.old store.old.nodes path.now base planned.items }
@@ -101,18 +100,18 @@ fn walk_entries<W: World>(
     ensures walked { (bytes : ℕ → List ℕ) → OnOk result (counted progress.new.walked 0 ≡ counted progress.old.walked (length (flat_map (entry_folders (view_on volume.old bytes) path.now) planned.items))) }
     ensures blocks { W.blocks world.new ≡ W.blocks world.old }
     ensures never_less { NeverLess (W.faults world.old) (W.faults world.new) }
-    ensures fault { (side : Named) → result ≡ Err (LineFault.Fault side) → Rose (W.faults world.old (part_of side)) (W.faults world.new (part_of side)) }
+    ensures fault { Blames result (W.faults world.old) (W.faults world.new) }
 {
     items_keep_bounds();
     let mut entries = Vec::new(alloc);
     for entry in planned {
-        let Planned {
+        let PlannedEntry {
             name,
             base: below,
             plan,
         } = entry;
         let above = base;
-        let node = walk_plan(
+        let node = walk_entry(
             alloc, world, volume, store, progress, path, above, &name, below, plan,
         )?;
         entries.push(Child { name, node })?;
@@ -122,7 +121,7 @@ fn walk_entries<W: World>(
 
 /// Makes what stands at a name in the folder at a path; `below` is the base's node there.
 #[cycle(walk)]
-fn walk_plan<W: World>(
+fn walk_entry<W: World>(
     alloc: Global,
     world: &mut W,
     volume: &mut Volume,
@@ -132,7 +131,7 @@ fn walk_plan<W: World>(
     base: Option<NodeId>,
     name: &Name,
     below: Option<NodeId>,
-    plan: Plan,
+    plan: EntryPlan,
 ) -> Result<NodeId, LineFault>
     requires may { MayGo W.told volume.old store.old (now (W.log world.old)) (W.blocks world.old Side.Volume) (W.blocks world.old Side.Store) }
     requires enter { MayEnter volume.old store.old.nodes path.now base (record { name = name.now; base = below; plan = plan }) }
@@ -146,16 +145,16 @@ fn walk_plan<W: World>(
     ensures walked { (bytes : ℕ → List ℕ) → OnOk result (counted progress.new.walked 0 ≡ counted progress.old.walked (length (entry_folders (view_on volume.old bytes) path.now (record { name = name.now; base = below; plan = plan })))) }
     ensures blocks { W.blocks world.new ≡ W.blocks world.old }
     ensures never_less { NeverLess (W.faults world.old) (W.faults world.new) }
-    ensures fault { (side : Named) → result ≡ Err (LineFault.Fault side) → Rose (W.faults world.old (part_of side)) (W.faults world.new (part_of side)) }
+    ensures fault { Blames result (W.faults world.old) (W.faults world.new) }
 {
     items_keep_bounds();
     match plan {
-        Plan::Kept(node) => Ok(node),
-        Plan::File { attrs, stamp, blob } => {
+        EntryPlan::Kept(node) => Ok(node),
+        EntryPlan::File { attrs, stamp, blob } => {
             let node = progress.builder.file(attrs, stamp, blob)?;
             Ok(node)
         }
-        Plan::Link {
+        EntryPlan::Link {
             attrs,
             stamp,
             target,
@@ -165,7 +164,7 @@ fn walk_plan<W: World>(
                 .link(store.graph(), below, attrs, stamp, target)?;
             Ok(node)
         }
-        Plan::Folder => {
+        EntryPlan::Folder => {
             let place = child_of(path, name)?;
             walk_folder(alloc, world, volume, store, progress, &place, below)
         }

@@ -1,3 +1,4 @@
+pub mod Facts
 pub mod MomentLemmas
 pub mod PathLemmas
 pub mod DayLemmas

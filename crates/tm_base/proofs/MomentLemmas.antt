@@ -11,7 +11,7 @@ use Rattle.jiff_core.proofs.CalendarLemmas.{days_in_month_bounds}
 use Rattle.jiff_core.proofs.DateLemmas.{epoch_day-lt, epoch_day_injective}
 use Rattle.jiff_core.proofs.StandardFacts.{known_days}
 use Rattle.jiff_core.proofs.SignedLemmas.{signed_arith}
-use Rattle.tm_base.specs.Moments.{digit, date_text, text_of, two, HasParts, HasPartsOf, IsWhole, Names}
+use Rattle.tm_base.specs.Moments.{digit, date_text, text_of, two, HasParts, HasPartsOf, IsWholeSecond, Names}
 
 -- two digits read as the number that they write
 two_digits : (a b n : ℕ) → a ≡ digit (n / 10) → b ≡ digit (n % 10) → n < 100 → two a b ≡ n
@@ -26,7 +26,7 @@ abs_pos (pos n) low = refl
 abs_pos (negsuc n) low = absurd (omega (arith, signed_arith, low))
 
 -- a text of a whole second has its parts
-pub parts_of_text : (t : DateTime) (text : List ℕ) → IsWhole t → text ≡ text_of t → HasPartsOf t text
+pub parts_of_text : (t : DateTime) (text : List ℕ) → IsWholeSecond t → text ≡ text_of t → HasPartsOf t text
 unfolding text_of
 parts_of_text t text whole written =
     let place : (k : ℕ) → slice_index text k ≡ slice_index (text_of t) k = λ k. ap (λ (l : List ℕ). slice_index l k) written in

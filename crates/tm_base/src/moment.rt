@@ -1,15 +1,13 @@
 //! Moments: whole seconds of the years 1970 to 9999, in UTC.
 ghost use Rattle.std.specs.Prelude.{◌≡◌, ◌≢◌, ℕ, ◌+◌, ◌-◌, ◌*◌, ◌/◌, ◌%◌, ◌<◌, ◌≤◌, ◌↔◌, min, pos, ◌≤ℤ◌, IfOk, IfErr, IfSome, IfNone, MatchOption, OnErr, IsNone, IsTrue, Some, None, Ok, string_bytes, length, slice_index, unsigned_abs, IsAscii};
 ghost use Rattle.tm_base.specs.Days.{moment_text, last_moment};
-ghost use Rattle.tm_base.specs.Moments.{Names, date_text, text_of, IsWhole, HasParts, HasPartsOf, two};
+ghost use Rattle.tm_base.specs.Moments.{Names, date_text, text_of, IsWholeSecond, HasParts, HasPartsOf, two};
 
+use crate::limits::LAST_MOMENT;
 use jiff_core::civil::{Date, DateTime, Time};
 use std::alloc::{AllocError, Global};
 use std::marker::Model;
 use thiserror::Error;
-
-/// The last second of the year 9999.
-const LAST: u64 = 253_402_300_799;
 
 /// A moment in whole seconds from 1970-01-01T00:00:00 to the end of the year 9999, in UTC.
 ///
@@ -24,7 +22,7 @@ impl Model for Moment {
 
     ghost view = { λ m. m.seconds };
 
-    ghost invariant = { λ m. m.seconds ≤ 253_402_300_799 };
+    ghost invariant = { λ m. m.seconds ≤ last_moment };
 
     ghost inverse = { λ n. record { seconds = n } };
 }
@@ -177,7 +175,7 @@ impl Moment {
     /// The seconds since 1970-01-01T00:00:00. It takes no memory.
     pub fn seconds(self) -> u64
         ensures value { result ≡ self }
-        ensures bound { result ≤ 253_402_300_799 }
+        ensures bound { result ≤ last_moment }
     {
         self.seconds
     }
@@ -185,10 +183,10 @@ impl Moment {
     /// The moment so many seconds after 1970-01-01T00:00:00; none exactly after the year 9999. It
     /// takes no memory.
     pub fn from_seconds(seconds: u64) -> Option<Moment>
-        ensures none { IsNone result ↔ (253_402_300_799 < seconds) }
+        ensures none { IsNone result ↔ (last_moment < seconds) }
         ensures some { IfSome result (λ m. m ≡ seconds) }
     {
-        if seconds > LAST {
+        if seconds > LAST_MOMENT {
             return None;
         }
         Some(Moment { seconds })

@@ -7,6 +7,7 @@ ghost use Rattle.std.specs.Cmp.Rules.{comparing, hashing};
 ghost use Rattle.std.specs.Cmp.Lexicographic.{slice_cmp, pointwise};
 ghost use Rattle.std.specs.Ordering.{nat_cmp, as_partial_cmp};
 
+use crate::limits::MAX_NAME_BYTES;
 use std::alloc::{AllocError, Global};
 use std::cmp::Ordering;
 use std::marker::Model;
@@ -21,6 +22,16 @@ pub enum NameError {
     /// Memory was refused.
     #[error("out of memory")]
     Memory,
+}
+
+impl From<AllocError> for NameError {
+    ghost use Rattle.tm_base.specs.declared.name.NameError.TheVariants.{Memory};
+
+    ghost from_gives = { λ _ error. error ≡ Memory };
+
+    fn from(_error: AllocError) -> NameError {
+        NameError::Memory
+    }
 }
 
 /// A name: 1 to 255 bytes of UTF-8 without `/` and NUL, other than `.` and `..`.
@@ -46,7 +57,7 @@ fn is_name(bytes: &[u8]) -> bool
     ensures { IsTrue result ↔ IsName bytes.now }
 {
     !bytes.is_empty()
-        && bytes.len() <= 255
+        && bytes.len() <= MAX_NAME_BYTES
         && str::from_utf8(bytes).is_ok()
         && bytes.iter().all(|b| *b != b'/' && *b != 0)
         && bytes != b".".as_slice()
@@ -63,10 +74,9 @@ impl Name {
         if !is_name(bytes) {
             return Err(NameError::BadName);
         }
-        match bytes.to_vec(alloc) {
-            Ok(bytes) => Ok(Name { bytes }),
-            Err(_) => Err(NameError::Memory),
-        }
+        Ok(Name {
+            bytes: bytes.to_vec(alloc)?,
+        })
     }
 
     /// The bytes of the name. It takes no memory.

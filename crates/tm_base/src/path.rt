@@ -5,8 +5,10 @@ ghost use Rattle.std.specs.Cmp.{partial_order_from_own_ties};
 ghost use Rattle.std.specs.Cmp.Rules.{comparing, hashing};
 ghost use Rattle.std.specs.Cmp.Lexicographic.{slice_cmp, pointwise};
 ghost use Rattle.std.specs.Ordering.{nat_cmp, as_partial_cmp};
+ghost use Rattle.tm_base.specs.Limits.{max_names};
 ghost use Rattle.tm_base.specs.Paths.{Names, path_cmp, path_ties, same_path, is_prefix, is_root, parent_of};
 
+use crate::limits::MAX_NAMES;
 use crate::name::Name;
 use std::alloc::{AllocError, AllocFailed, Global};
 use std::cmp::Ordering;
@@ -55,12 +57,13 @@ pub struct Path {
 
 impl Model for Path {
     ghost use Rattle.std.specs.Prelude.{List, ℕ, ◌≤◌, length};
+    ghost use Rattle.tm_base.specs.Limits.{max_names};
 
     ghost Value = { List (List ℕ) };
 
     ghost view = { λ p. p.names.items };
 
-    ghost invariant = { λ p. length p.names.items ≤ 64 };
+    ghost invariant = { λ p. length p.names.items ≤ max_names };
 }
 
 impl Path {
@@ -76,7 +79,7 @@ impl Path {
     /// The names, from the root down. It takes no memory.
     pub fn names(&self) -> &[Name]
         ensures names { result.now ≡ self.now }
-        ensures short { length self.now ≤ 64 }
+        ensures short { length self.now ≤ max_names }
     {
         self.names.as_slice()
     }
@@ -90,9 +93,9 @@ impl Path {
 
     /// Whether no name fits below. It takes no memory.
     pub fn is_full(&self) -> bool
-        ensures { IsTrue result ↔ (64 ≤ length self.now) }
+        ensures { IsTrue result ↔ (max_names ≤ length self.now) }
     {
-        self.names.len() >= 64
+        self.names.len() >= MAX_NAMES
     }
 
     /// The path of its first `count` names; only want of memory can refuse it.
@@ -109,7 +112,7 @@ impl Path {
 
     /// The path of the entry `name` in the folder here; [`PathError::TooDeep`] exactly at 64 names.
     pub fn child(&self, name: &Name) -> Result<Path, PathError>
-        ensures deep { IsErrOf result PathError.TooDeep ↔ (64 ≤ length self.now) }
+        ensures deep { IsErrOf result PathError.TooDeep ↔ (max_names ≤ length self.now) }
         ensures value { IfOk result (λ path. path ≡ self.now ++ name.now ∷ []) }
     {
         if self.is_full() {
@@ -122,7 +125,7 @@ impl Path {
 
     /// Goes down by a name; where memory is refused, the path stays as it was.
     pub fn push(&mut self, name: Name) -> Result<(), AllocError>
-        requires { length self.old < 64 }
+        requires { length self.old < max_names }
         ensures ok { OnOk result (self.new ≡ self.old ++ name ∷ []) }
         ensures err { OnErr result (self.new ≡ self.old) }
     {

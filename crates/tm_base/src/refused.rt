@@ -147,6 +147,16 @@ pub enum LineFault {
     Memory,
 }
 
+impl From<Refused> for LineFault {
+    ghost use Rattle.tm_base.specs.declared.refused.LineFault.TheVariants.{Refused};
+
+    ghost from_gives = { λ why fault. fault ≡ Refused why };
+
+    fn from(why: Refused) -> LineFault {
+        LineFault::Refused(why)
+    }
+}
+
 impl From<AllocError> for LineFault {
     ghost use Rattle.tm_base.specs.declared.refused.LineFault.TheVariants.{Memory};
 

@@ -11,7 +11,7 @@ use Rattle.std.proofs.lemmas.Nat.Bits.{bit_at-lt, bit_at_ones, bit_at-zero, bit_
 use Rattle.std.proofs.lemmas.List.FromFn.{length-map-range_with_len, get_or-map-range_with_len, fill_by_all}
 use Rattle.std.proofs.lemmas.List.Sums.{sum_by-set, sum_by-le}
 use Rattle.std.proofs.lemmas.List.Folds.{sum_by-replicate}
-use Rattle.tm_blockmap.specs.Words.{mark_in, marks_of, IsWhole}
+use Rattle.tm_blockmap.specs.Words.{mark_in, marks_of, IsBlockMap}
 use Rattle.tm_blockmap.specs.declared.BlockMap.TheInside.{Inside}
 
 pub length-marks_of : (count : ℕ) (words : List ℕ) → length (marks_of count words) ≡ count
@@ -56,7 +56,7 @@ module _ (count : ℕ) (words : List ℕ) (block at bit word x : ℕ) (q : block
       (cases_eq b block)))
 
 -- the fields of a map after a change of one mark
-module _ (a b : Inside) (whole : IsWhole a) (block x : ℕ) (within : block < a.count) where
+module _ (a b : Inside) (whole : IsBlockMap a) (block x : ℕ) (within : block < a.count) where
   pub word_within : block / 64 < length a.words.items
   word_within = omega (arith, whole.enough)
 
@@ -70,7 +70,7 @@ module _ (a b : Inside) (whole : IsWhole a) (block x : ℕ) (within : block < a.
       (sum_by-set (λ y. y) (marks_of a.count a.words.items) block x 0 len)
 
   pub whole_after : b.count ≡ a.count → length b.words.items ≡ length a.words.items → marks_of a.count b.words.items ≡ set (marks_of a.count a.words.items) block x
-      → b.free + x ≡ a.free + mark_in a.words.items block → b.hint ≤ length a.words.items → ((w : ℕ) → w < b.hint → get_or b.words.items w 0 ≡ 2 ^ 64 - 1) → IsWhole b
+      → b.free + x ≡ a.free + mark_in a.words.items block → b.hint ≤ length a.words.items → ((w : ℕ) → w < b.hint → get_or b.words.items w 0 ≡ 2 ^ 64 - 1) → IsBlockMap b
   whole_after count len marks free hint full =
       let marks2 : sum (marks_of b.count b.words.items) ≡ sum (set (marks_of a.count a.words.items) block x) = ap (λ n. sum (marks_of n b.words.items)) count ∙ ap sum marks in
       record {
@@ -93,7 +93,7 @@ sum-le : (xs : List ℕ) → ((k : ℕ) → k < length xs → get_or xs k 0 ≤ 
 sum-le xs each = omega (arith, sum_by-le (λ y. y) 1 xs (λ k d lt. omega (arith, each k lt, get_or_default xs k d 0 lt)))
 
 -- where a mark is 0, some block is free
-pub some_free : (a : Inside) (whole : IsWhole a) (block : ℕ) → block < a.count → mark_in a.words.items block ≡ 0 → 1 ≤ a.free
+pub some_free : (a : Inside) (whole : IsBlockMap a) (block : ℕ) → block < a.count → mark_in a.words.items block ≡ 0 → 1 ≤ a.free
 some_free a whole block within zero_here =
     let ms : List ℕ = marks_of a.count a.words.items in
     let len : length ms ≡ a.count = length-marks_of a.count a.words.items in
@@ -152,18 +152,18 @@ pub kept_full : (words : List ℕ) (at word hint : ℕ) → (hint ≤ at) → ((
 kept_full words at word hint le full w lt = get_or-set_other words at w word 0 (omega arith) ∙ full w lt
 
 -- the word of a free block isn't full
-pub past_hint : (a : Inside) (whole : IsWhole a) (block : ℕ) → mark_in a.words.items block ≡ 0 → a.hint ≤ block / 64
+pub past_hint : (a : Inside) (whole : IsBlockMap a) (block : ℕ) → mark_in a.words.items block ≡ 0 → a.hint ≤ block / 64
 past_hint a whole block zero_here = ⊎_elim
     (λ (lt : block / 64 < a.hint). absurd (omega (arith, full_word a.words.items block (whole.full (block / 64) lt))))
     (λ (le : a.hint ≤ block / 64). le)
     (cases_lt (block / 64) a.hint)
 
 -- no block of the words before this one is free
-pub full_so_far : (a : Inside) (whole : IsWhole a) (at : ℕ) → ((w : ℕ) → a.hint ≤ w → w < at → get_or a.words.items w 0 ≡ 2 ^ 64 - 1) → (w : ℕ) → w < at → get_or a.words.items w 0 ≡ 2 ^ 64 - 1
+pub full_so_far : (a : Inside) (whole : IsBlockMap a) (at : ℕ) → ((w : ℕ) → a.hint ≤ w → w < at → get_or a.words.items w 0 ≡ 2 ^ 64 - 1) → (w : ℕ) → w < at → get_or a.words.items w 0 ≡ 2 ^ 64 - 1
 full_so_far a whole at full w lt = ⊎_elim (λ (below : w < a.hint). whole.full w below) (λ (from : a.hint ≤ w). full w from lt) (cases_lt w a.hint)
 
 -- the first word that isn't full, and its lowest free bit
-module _ (a : Inside) (whole : IsWhole a) (at word bit : ℕ) (enough : at < length a.words.items) (was : word ≡ get_or a.words.items at word)
+module _ (a : Inside) (whole : IsBlockMap a) (at word bit : ℕ) (enough : at < length a.words.items) (was : word ≡ get_or a.words.items at word)
     (full : (w : ℕ) → w < at → get_or a.words.items w 0 ≡ 2 ^ 64 - 1) (bit_small : bit < 64) (free : bit_at word bit ≡ 0) (below : (i : ℕ) → i < bit → bit_at word i ≡ 1) where
   pub quotient : (at * 64 + bit) / 64 ≡ at
   quotient = omega (arith, bit_small)

@@ -13,7 +13,7 @@ unfoldable pub marks_of : ℕ → List ℕ → List ℕ
 marks_of count words = map (mark_in words) (range_with_len 0 count)
 
 -- what a map keeps: enough words and no more, none with a free block before the hint, and the number of free blocks
-pub record IsWhole (a : Inside) : Type 0 where
+pub record IsBlockMap (a : Inside) : Type 0 where
   pub small : a.count < 2 ^ 32
   pub enough : a.count ≤ 64 * length a.words.items
   pub no_more : 64 * length a.words.items < a.count + 64

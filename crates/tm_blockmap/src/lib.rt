@@ -44,11 +44,11 @@ impl Model for BlockMap {
 
     ghost Value = { List ℕ };
 
-    ghost use Rattle.tm_blockmap.specs.Words.{marks_of, IsWhole};
+    ghost use Rattle.tm_blockmap.specs.Words.{marks_of, IsBlockMap};
 
     ghost view = { λ a. marks_of a.count a.words.items };
 
-    ghost invariant = { IsWhole };
+    ghost invariant = { IsBlockMap };
 }
 
 /// The first word from `from` on that isn't full.

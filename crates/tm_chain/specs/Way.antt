@@ -2,12 +2,12 @@
 use Rattle.std.specs.Prelude.{◌≡◌, ◌≤◌, ◌<◌, ◌+◌, ◌-◌, ◌*◌, ℕ, List, length, slice_index, drop, replicate}
 use Rattle.tm_blockmap.specs.Counts.{times}
 use Rattle.tm_codec.specs.Fields.{u32_text}
-use Rattle.tm_codec.specs.Places.{StandsAt}
+use Rattle.tm_codec.specs.Places.{IsTextAt}
 use Rattle.tm_chain.specs.Chain.{IsBlockList, chain_len}
 
 -- a block has this number at its front
 abbrev pub Names : ℕ → List ℕ → Type 0
-Names next block = StandsAt (u32_text next) 0 block
+Names next block = IsTextAt (u32_text next) 0 block
 
 -- each of these blocks has the number of the one after it at its front
 pub record IsLinked (blocks : List ℕ) (bytes : ℕ → List ℕ) : Type 0 where

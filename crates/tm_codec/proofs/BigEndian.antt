@@ -14,15 +14,15 @@ pub length-bytes : (k n : ℕ) → length (bytes_high_first k n) ≡ k
 length-bytes zero n = refl
 length-bytes (suc k) n = ap suc (length-bytes k n)
 
-byte_at-is : (k n : ℕ) → byte_at k n ≡ n / 256 ^ k % 256
+pub byte_at-is : (k n : ℕ) → byte_at k n ≡ n / 256 ^ k % 256
 byte_at-is zero n = omega arith
 byte_at-is (suc k) n = refl
 
-pos : (k : ℕ) → 0 < 256 ^ k
+pub pos : (k : ℕ) → 0 < 256 ^ k
 pos zero = omega arith
 pos (suc k) = omega (arith, pow-suc 256 k, pos k)
 
-split : (n p : ℕ) → 0 < p → n ≡ n / p * p + n % p
+pub split : (n p : ℕ) → 0 < p → n ≡ n / p * p + n % p
 split n p h = omega arith
 
 -- a multiple of 256 ^ k changes none of the lowest k bytes

@@ -5,12 +5,12 @@ use Rattle.std.proofs.lemmas.Bool.{cases_lt}
 use Rattle.std.proofs.lemmas.List.{get_or_past, take_at, drop_at, drop-drop}
 use Rattle.std.proofs.lemmas.List.Prefix.{at_reads}
 use Rattle.tm_codec.specs.Fields.{u8_text, u16_text, u32_text, u64_text, u128_text, short_text, long_text}
-use Rattle.tm_codec.specs.Places.{StandsAt}
+use Rattle.tm_codec.specs.Places.{IsTextAt}
 use Rattle.tm_codec.proofs.BigEndian.{length-bytes, bytes-value, value-sum, bytes-apart}
 
 -- a text that isn't empty ends before the bytes do
-pub StandsAt-fits : (text bytes : List ℕ) (at : ℕ) → 1 ≤ length text → StandsAt text at bytes → at + length text ≤ length bytes
-StandsAt-fits text bytes at some stands = omega (arith, ap length stands, length-append text (drop (at + length text) bytes), length-drop at bytes)
+pub IsTextAt-fits : (text bytes : List ℕ) (at : ℕ) → 1 ≤ length text → IsTextAt text at bytes → at + length text ≤ length bytes
+IsTextAt-fits text bytes at some stands = omega (arith, ap length stands, length-append text (drop (at + length text) bytes), length-drop at bytes)
 
 -- a part of bytes is bytes
 part_bytes : (bytes part : List ℕ) (at : ℕ) (rest : List ℕ) → ((i : ℕ) → Fits w8 (get_or bytes i 0)) → drop at bytes ≡ part ++ rest → (i : ℕ) → get_or part i 0 < 256
@@ -25,15 +25,15 @@ module _ (k at n : ℕ) (bytes part : List ℕ) (small : (i : ℕ) → Fits w8 (
   spelled : bytes_high_first (suc k) n ≡ part
   spelled = ap (λ j. bytes_high_first j n) (sym len) ∙ ap (bytes_high_first (length part)) (is ∙ value-sum k part len) ∙ bytes-value part (part_bytes bytes part at (drop (at + suc k) bytes) small stands)
 
-  pub number-stands : StandsAt (bytes_high_first (suc k) n) at bytes
+  pub number-stands : IsTextAt (bytes_high_first (suc k) n) at bytes
   number-stands = stands ∙ ap (λ t. t ++ drop (at + suc k) bytes) (sym spelled) ∙ ap (λ j. bytes_high_first (suc k) n ++ drop (at + j) bytes) (sym (length-bytes (suc k) n))
 
-  pub number-read : (m : ℕ) → n < 256 ^ suc k → m < 256 ^ suc k → StandsAt (bytes_high_first (suc k) m) at bytes → n ≡ m
+  pub number-read : (m : ℕ) → n < 256 ^ suc k → m < 256 ^ suc k → IsTextAt (bytes_high_first (suc k) m) at bytes → n ≡ m
   number-read m small_n small_m other = (bytes-apart (suc k) n m _ _ small_n small_m (sym number-stands ∙ other)).0
 
 -- no number stands past the end
-pub number-none : (k at m : ℕ) (bytes : List ℕ) → length bytes < at + suc k → StandsAt (bytes_high_first (suc k) m) at bytes → ⊥
-number-none k at m bytes ends stands = absurd (omega (arith, StandsAt-fits (bytes_high_first (suc k) m) bytes at (omega (arith, length-bytes (suc k) m)) stands, length-bytes (suc k) m))
+pub number-none : (k at m : ℕ) (bytes : List ℕ) → length bytes < at + suc k → IsTextAt (bytes_high_first (suc k) m) at bytes → ⊥
+number-none k at m bytes ends stands = absurd (omega (arith, IsTextAt-fits (bytes_high_first (suc k) m) bytes at (omega (arith, length-bytes (suc k) m)) stands, length-bytes (suc k) m))
 
 -- how long a spelling is
 pub length-u8_text : (n : ℕ) → length (u8_text n) ≡ 1
@@ -105,81 +105,81 @@ apart-long a b x y small_a small_b same =
     parted a b x y both.0 both.1
 
 -- a spelling stands where it was put
-pub read_again : (text front rest : List ℕ) → StandsAt text (length front) (front ++ text ++ rest)
+pub read_again : (text front rest : List ℕ) → IsTextAt text (length front) (front ++ text ++ rest)
 read_again text front rest =
     let all : front ++ text ++ rest ≡ front ++ (text ++ rest) = append_assoc front text rest in
     ap (drop (length front)) all ∙ drop_at front (text ++ rest) (length front) refl
     ∙ ap (λ r. text ++ r) (sym (drop_at (front ++ text) rest (length front + length text) (length-append front text)))
 
 -- a part after a front
-after_front : (front part bytes : List ℕ) (at w count : ℕ) → length front ≡ w → length part ≡ count → StandsAt front at bytes → drop (at + w) bytes ≡ part ++ drop (at + w + count) bytes → StandsAt (front ++ part) at bytes
+after_front : (front part bytes : List ℕ) (at w count : ℕ) → length front ≡ w → length part ≡ count → IsTextAt front at bytes → drop (at + w) bytes ≡ part ++ drop (at + w + count) bytes → IsTextAt (front ++ part) at bytes
 after_front front part bytes at w count len many stands rest =
     let place : at + w + count ≡ at + length (front ++ part) = omega (arith, length-append front part) in
     stands ∙ ap (λ j. front ++ drop (at + j) bytes) len ∙ ap (λ r. front ++ r) rest
     ∙ sym (append_assoc front part (drop (at + w + count) bytes)) ∙ ap (λ j. front ++ part ++ drop j bytes) place
 
-front_first : (front part bytes : List ℕ) (at : ℕ) → StandsAt (front ++ part) at bytes → StandsAt front at bytes
+front_first : (front part bytes : List ℕ) (at : ℕ) → IsTextAt (front ++ part) at bytes → IsTextAt front at bytes
 front_first front part bytes at stands =
     let all : drop at bytes ≡ front ++ (part ++ drop (at + length (front ++ part)) bytes) = stands ∙ append_assoc front part (drop (at + length (front ++ part)) bytes) in
     all ∙ ap (λ r. front ++ r) (sym (drop_at front (part ++ drop (at + length (front ++ part)) bytes) (length front) refl) ∙ ap (drop (length front)) (sym all) ∙ drop-drop (length front) at bytes ∙ ap (λ j. drop j bytes) (omega arith))
 
 -- a short that was read from these bytes
-module _ (bytes : List ℕ) (at count : ℕ) (small : count < 2 ^ 8) (front : StandsAt (u8_text count) at bytes) where
+module _ (bytes : List ℕ) (at count : ℕ) (small : count < 2 ^ 8) (front : IsTextAt (u8_text count) at bytes) where
   pub short_count : count ≡ get_or bytes at 0
   unfolding u8_text
   short_count =
       let here : at + 0 ≡ at = omega arith in
       omega (arith, ap (λ j. get_or bytes j 0) here, at_reads 0 bytes (u8_text count) at _ front 0 (omega arith))
 
-  pub short-stands : (part : List ℕ) → length part ≡ count → drop (at + 1) bytes ≡ part ++ drop (at + 1 + count) bytes → (length part < 2 ^ 8) × StandsAt (short_text part) at bytes
+  pub short-stands : (part : List ℕ) → length part ≡ count → drop (at + 1) bytes ≡ part ++ drop (at + 1 + count) bytes → (length part < 2 ^ 8) × IsTextAt (short_text part) at bytes
   unfolding short_text
   short-stands part len rest = (
     omega arith,
-    subst (λ n. StandsAt (u8_text n ++ part) at bytes) (sym len) (after_front (u8_text count) part bytes at 1 count (length-u8_text count) len front rest),
+    subst (λ n. IsTextAt (u8_text n ++ part) at bytes) (sym len) (after_front (u8_text count) part bytes at 1 count (length-u8_text count) len front rest),
   )
 
-  pub short-read : (part other : List ℕ) → length part ≡ count → drop (at + 1) bytes ≡ part ++ drop (at + 1 + count) bytes → length other < 2 ^ 8 → StandsAt (short_text other) at bytes → part ≡ other
+  pub short-read : (part other : List ℕ) → length part ≡ count → drop (at + 1) bytes ≡ part ++ drop (at + 1 + count) bytes → length other < 2 ^ 8 → IsTextAt (short_text other) at bytes → part ≡ other
   short-read part other len rest fits stands =
       let here = short-stands part len rest in
       (apart-short part other _ _ here.0 fits (sym here.1 ∙ stands)).0
 
-  pub short-none : (other : List ℕ) → length bytes < at + 1 + count → length other < 2 ^ 8 → StandsAt (short_text other) at bytes → ⊥
+  pub short-none : (other : List ℕ) → length bytes < at + 1 + count → length other < 2 ^ 8 → IsTextAt (short_text other) at bytes → ⊥
   unfolding short_text
   short-none other ends fits stands =
       let same : count ≡ length other = (apart-u8 count (length other) _ _ small fits (sym front ∙ front_first (u8_text (length other)) other bytes at stands)).0 in
-      absurd (omega (arith, StandsAt-fits (short_text other) bytes at (omega (arith, length-short_text other)) stands, length-short_text other))
+      absurd (omega (arith, IsTextAt-fits (short_text other) bytes at (omega (arith, length-short_text other)) stands, length-short_text other))
 
-pub short-missing : (bytes other : List ℕ) (at : ℕ) → length bytes < at + 1 → StandsAt (short_text other) at bytes → ⊥
-short-missing bytes other at ends stands = absurd (omega (arith, StandsAt-fits (short_text other) bytes at (omega (arith, length-short_text other)) stands, length-short_text other))
+pub short-missing : (bytes other : List ℕ) (at : ℕ) → length bytes < at + 1 → IsTextAt (short_text other) at bytes → ⊥
+short-missing bytes other at ends stands = absurd (omega (arith, IsTextAt-fits (short_text other) bytes at (omega (arith, length-short_text other)) stands, length-short_text other))
 
 -- a long that was read from these bytes
-module _ (bytes : List ℕ) (at count : ℕ) (small : count < 2 ^ 16) (front : StandsAt (u16_text count) at bytes) where
+module _ (bytes : List ℕ) (at count : ℕ) (small : count < 2 ^ 16) (front : IsTextAt (u16_text count) at bytes) where
   pub long_count : count ≡ 256 * get_or bytes at 0 + get_or bytes (at + 1) 0
   unfolding u16_text
   long_count =
       let here : at + 0 ≡ at = omega arith in
       omega (arith, ap (λ j. get_or bytes j 0) here, at_reads 0 bytes (u16_text count) at _ front 0 (omega arith), at_reads 0 bytes (u16_text count) at _ front 1 (omega arith))
 
-  pub long-stands : (part : List ℕ) → length part ≡ count → drop (at + 2) bytes ≡ part ++ drop (at + 2 + count) bytes → (length part < 2 ^ 16) × StandsAt (long_text part) at bytes
+  pub long-stands : (part : List ℕ) → length part ≡ count → drop (at + 2) bytes ≡ part ++ drop (at + 2 + count) bytes → (length part < 2 ^ 16) × IsTextAt (long_text part) at bytes
   unfolding long_text
   long-stands part len rest = (
     omega arith,
-    subst (λ n. StandsAt (u16_text n ++ part) at bytes) (sym len) (after_front (u16_text count) part bytes at 2 count (length-u16_text count) len front rest),
+    subst (λ n. IsTextAt (u16_text n ++ part) at bytes) (sym len) (after_front (u16_text count) part bytes at 2 count (length-u16_text count) len front rest),
   )
 
-  pub long-read : (part other : List ℕ) → length part ≡ count → drop (at + 2) bytes ≡ part ++ drop (at + 2 + count) bytes → length other < 2 ^ 16 → StandsAt (long_text other) at bytes → part ≡ other
+  pub long-read : (part other : List ℕ) → length part ≡ count → drop (at + 2) bytes ≡ part ++ drop (at + 2 + count) bytes → length other < 2 ^ 16 → IsTextAt (long_text other) at bytes → part ≡ other
   long-read part other len rest fits stands =
       let here = long-stands part len rest in
       (apart-long part other _ _ here.0 fits (sym here.1 ∙ stands)).0
 
-  pub long-none : (other : List ℕ) → length bytes < at + 2 + count → length other < 2 ^ 16 → StandsAt (long_text other) at bytes → ⊥
+  pub long-none : (other : List ℕ) → length bytes < at + 2 + count → length other < 2 ^ 16 → IsTextAt (long_text other) at bytes → ⊥
   unfolding long_text
   long-none other ends fits stands =
       let same : count ≡ length other = (apart-u16 count (length other) _ _ small fits (sym front ∙ front_first (u16_text (length other)) other bytes at stands)).0 in
-      absurd (omega (arith, StandsAt-fits (long_text other) bytes at (omega (arith, length-long_text other)) stands, length-long_text other))
+      absurd (omega (arith, IsTextAt-fits (long_text other) bytes at (omega (arith, length-long_text other)) stands, length-long_text other))
 
-pub long-missing : (bytes other : List ℕ) (at : ℕ) → length bytes < at + 2 → StandsAt (long_text other) at bytes → ⊥
-long-missing bytes other at ends stands = absurd (omega (arith, StandsAt-fits (long_text other) bytes at (omega (arith, length-long_text other)) stands, length-long_text other))
+pub long-missing : (bytes other : List ℕ) (at : ℕ) → length bytes < at + 2 → IsTextAt (long_text other) at bytes → ⊥
+long-missing bytes other at ends stands = absurd (omega (arith, IsTextAt-fits (long_text other) bytes at (omega (arith, length-long_text other)) stands, length-long_text other))
 
 -- a length and a part, one after the other
 pub short_added : (out part mid new start : List ℕ) → length part < 2 ^ 8 → start ≡ out → mid ≡ start ++ length part ∷ [] → new ≡ mid ++ part → new ≡ out ++ short_text part

@@ -1,6 +1,6 @@
 -- Parts laid over zeros, one after another: what `block[a..b].copy_from_slice(part)` leaves.
 use Rattle.std.proofs.Common.{◌≡◌, ℕ, ◌+◌, ◌-◌, List, ◌++◌, length, take, drop, replicate, sym, ◌∙◌, ap, arith, length-append, append_assoc}
-use Rattle.std.proofs.lemmas.List.{take_at, drop_at, drop-replicate}
+use Rattle.std.proofs.lemmas.List.{take_at, drop_at, drop-replicate, replicate-append-replicate}
 use Rattle.tm_codec.specs.Padded.{padded}
 use borrow.Rule.Slice.PartMut.{put_mid, post_of}
 
@@ -31,3 +31,16 @@ pub laid_as : (n a p k q : ℕ) (block front part last x y z : List ℕ) → blo
     → put_mid p q (put_mid a k (x ++ post_of 0 a block) y) z ≡ padded n ((front ++ part) ++ last)
 laid_as n a p k q block front part last x y z zeros len same place many xs ys zs =
     laid_next n p q _ (front ++ part) last z (laid n a k block front part x y zeros len same xs ys) (omega (arith, length-append front part)) many zs
+
+-- ---- zeros behind
+
+-- a part more, where zeros stood
+pub lay : (a n m : ℕ) (s front part : List ℕ) → s ≡ front ++ replicate m 0 → length front ≡ a → put_mid a n s part ≡ (front ++ part) ++ replicate (m - n) 0
+lay a n m s front part is len =
+    let t : take a s ≡ front = ap (take a) is ∙ take_at front (replicate m 0) a len in
+    let d : drop a s ≡ replicate m 0 = ap (drop a) is ∙ drop_at front (replicate m 0) a len in
+    ap (λ f. f ++ (part ++ drop n (drop a s))) t ∙ ap (λ r. front ++ (part ++ r)) (ap (drop n) d ∙ drop-replicate n m 0) ∙ sym (append_assoc front part (replicate (m - n) 0))
+
+-- a gap of zeros
+pub skip : (k m : ℕ) (s front : List ℕ) → s ≡ front ++ replicate (k + m) 0 → s ≡ (front ++ replicate k 0) ++ replicate m 0
+skip k m s front is = is ∙ ap (λ r. front ++ r) (sym (replicate-append-replicate k m 0)) ∙ sym (append_assoc front (replicate k 0) (replicate m 0))

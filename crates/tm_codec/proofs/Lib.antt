@@ -1,3 +1,3 @@
-mod BigEndian
+pub mod BigEndian
 pub mod Fields
 pub mod Laying

@@ -2,8 +2,8 @@
 use Rattle.std.specs.Prelude.{◌≡◌, ◌+◌, ◌*◌, ℕ, List, ◌++◌, length, drop, slice_index}
 
 -- from this place on the bytes begin with this text
-abbrev pub StandsAt : List ℕ → ℕ → List ℕ → Type 0
-StandsAt text at bytes = drop at bytes ≡ text ++ drop (at + length text) bytes
+abbrev pub IsTextAt : List ℕ → ℕ → List ℕ → Type 0
+IsTextAt text at bytes = drop at bytes ≡ text ++ drop (at + length text) bytes
 
 -- where a short that begins at this place ends, by its length byte
 abbrev pub short_end : ℕ → List ℕ → ℕ

@@ -1,4 +1,3 @@
-pub mod Faults
 pub mod Untold
 pub mod Places
 pub mod Blocks

@@ -7,5 +7,5 @@ use Rattle.tm_world.specs.Log.{Log}
 abbrev pub untold : Log
 untold = record {
   moment = 0;
-  past = λ _. record { stands = λ _. nothing; scripts = λ _. None; volume = None; store = None; left = []; said = [] };
+  past = λ _. record { stands = λ _. nothing; scripts = λ _. None; volume = None; store = None; unread = []; said = [] };
 }

@@ -2,7 +2,7 @@
 use Rattle.std.specs.Prelude.{◌≡◌, ℕ, Option}
 use Rattle.tm_world.specs.declared.world.Side.{Side}
 use Rattle.tm_world.specs.declared.world.Part.{Part}
-use Rattle.tm_fileworld.specs.Faults.{count_of}
+use Rattle.tm_world.specs.Counts.{count_of}
 use Rattle.tm_fileworld.specs.Images.{blocks_at, file_at}
 use Rattle.tm_fileworld.specs.declared.world.FileWorld.{FileWorld}
 

@@ -2,7 +2,8 @@
 ghost use Rattle.std.specs.Prelude.{◌≡◌, ◌≤◌, IfOk, IsSome, OnOk, OnSome};
 ghost use Rattle.std.specs.Option.{ForSome};
 ghost use Rattle.std.specs.Io.Seek.{MovesTo};
-ghost use Rattle.tm_fileworld.specs.Blocks.{most_blocks, whole_blocks, first_byte};
+ghost use Rattle.tm_base.specs.Limits.{max_blocks};
+ghost use Rattle.tm_fileworld.specs.Blocks.{whole_blocks, first_byte};
 ghost use Rattle.tm_fileworld.specs.Places.{ReadsAt, WritesAt};
 
 use crate::streams::{read_all, write_all};
@@ -10,34 +11,29 @@ use std::fs::{File, OpenFile, OpenOptions};
 use std::io::{ErrorKind, Read, Seek, SeekFrom, Write};
 use std::path::Path;
 use std::rt::Files;
+use tm_base::limits::{BLOCK_BYTES, MAX_BLOCKS};
 use tm_world::Failed;
-
-/// The bytes of a block.
-const BLOCK: u64 = 4096;
-
-/// The most blocks of an image.
-const MOST_BLOCKS: u64 = 262_144;
 
 /// A file and how many whole blocks it has.
 #[derive(Drop)]
 pub(crate) struct Image<F> {
     file: F,
     blocks: u32,
-    ghost small: { blocks ≤ 262144 },
+    ghost small: { blocks ≤ max_blocks },
 }
 
 // How many whole blocks are in so many bytes, up to the most that an image has.
 fn whole_blocks(bytes: u64) -> u32
     ensures { result ≡ whole_blocks bytes }
 {
-    (bytes / BLOCK).min(MOST_BLOCKS) as u32
+    (bytes / BLOCK_BYTES as u64).min(u64::from(MAX_BLOCKS)) as u32
 }
 
 // Where a block begins in its file; also how many bytes so many blocks have.
 fn first_byte(block: u32) -> u64
     ensures { result ≡ first_byte block }
 {
-    u64::from(block) * BLOCK
+    u64::from(block) * BLOCK_BYTES as u64
 }
 
 // Goes to where a block begins.
@@ -55,7 +51,7 @@ impl<F: Read + Write + Seek + OpenFile> Image<F> {
     /// How many whole blocks it has.
     pub fn blocks(&self) -> u32
         ensures blocks { result ≡ self.now.blocks }
-        ensures small { result ≤ most_blocks }
+        ensures small { result ≤ max_blocks }
     {
         self.blocks
     }
@@ -116,7 +112,7 @@ fn make_zeros<F: OpenFile>(file: &F, blocks: u32) -> Result<(), Failed> {
 
 // Makes an image of so many zero blocks, which are stable.
 fn make_image<R: Files>(rt: &R, path: &str, blocks: u32) -> Result<Image<R::File>, Failed>
-    requires { blocks ≤ most_blocks }
+    requires { blocks ≤ max_blocks }
     ensures { IfOk result (λ image. image.blocks ≡ blocks) }
 {
     let file = OpenOptions::new()
@@ -139,7 +135,7 @@ pub(crate) fn open_image<R: Files>(
     path: &str,
     create: Option<u32>,
 ) -> Result<Option<Image<R::File>>, Failed>
-    requires { ForSome create (λ blocks. blocks ≤ most_blocks) }
+    requires { ForSome create (λ blocks. blocks ≤ max_blocks) }
     ensures { OnSome create (IfOk result (λ image. IsSome image)) }
 {
     match OpenOptions::new().read(true).write(true).open(rt, path) {

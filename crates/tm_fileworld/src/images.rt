@@ -1,7 +1,8 @@
 //! The two images, each in a file of its own.
 ghost use Rattle.std.specs.Prelude.{◌≡◌, ◌≢◌, ◌<◌, ◌≤◌, None, IsOk, OnOk};
+ghost use Rattle.tm_base.specs.Limits.{max_blocks};
 ghost use Rattle.tm_world.specs.declared.world.Side.{Side};
-ghost use Rattle.tm_fileworld.specs.Blocks.{most_blocks, first_byte};
+ghost use Rattle.tm_fileworld.specs.Blocks.{first_byte};
 ghost use Rattle.tm_fileworld.specs.Places.{ReadsAt, WritesAt, OnFile};
 ghost use Rattle.tm_fileworld.specs.Images.{blocks_of_image, blocks_at, file_at, image_at};
 
@@ -33,7 +34,7 @@ impl<F: Read + Write + Seek + OpenFile + Drop> Images<F> {
         ensures blocks { result ≡ blocks_of_image image }
         ensures image { image_at self.new side ≡ image }
         ensures other { (other : Side) → other ≢ side → image_at self.new other ≡ image_at self.old other }
-        ensures most { result ≤ most_blocks }
+        ensures most { result ≤ max_blocks }
     {
         let blocks = match &image {
             Some(image) => image.blocks(),

@@ -1,7 +1,6 @@
 //! The outside as it is: images and a script in real files, and standard output.
 #![tactic(auto)]
 
-mod faults;
 mod image;
 mod images;
 mod streams;

@@ -2,13 +2,14 @@
 ghost use Rattle.std.specs.Prelude.{◌≡◌, ◌≢◌, ◌<◌, ◌≤◌, ◌↔◌, [], ℕ, IfOk, IfSome, IsSome, IsNone, None, IsOk, IsErr, OnOk, OnErr, OnSome, length, take};
 ghost use Rattle.std.specs.Option.{ForSome};
 ghost use Rattle.std.specs.Io.KnownBytes.{Consumes, IsAtEnd};
+ghost use Rattle.tm_base.specs.Limits.{max_blocks};
 ghost use Rattle.tm_world.specs.declared.world.Part.{Part};
 ghost use Rattle.tm_world.specs.declared.world.Side.{Side};
 ghost use Rattle.tm_world.specs.Disk.{synced};
 ghost use Rattle.tm_world.specs.Outside.{part_of, disk, put_disk, took, attached, attached_count};
 ghost use Rattle.tm_world.specs.Log.{now, Steps, Says, Writes};
 ghost use Rattle.tm_fileworld.specs.Untold.{untold};
-ghost use Rattle.tm_fileworld.specs.Faults.{counted};
+ghost use Rattle.tm_world.specs.Counts.{counted};
 ghost use Rattle.tm_fileworld.specs.Blocks.{first_byte};
 ghost use Rattle.tm_fileworld.specs.Places.{ReadsAt, WritesAt, OnFile};
 ghost use Rattle.tm_world.specs.Faults.{Rose, NeverLess};
@@ -18,7 +19,6 @@ ghost use Rattle.tm_fileworld.specs.World.{blocks_of, file_of, script_of, faults
 #[cfg(test)]
 mod tests;
 
-use crate::faults::Faults;
 use crate::image::open_image;
 use crate::images::Images;
 use crate::streams::{read_some, write_all};
@@ -26,7 +26,7 @@ use std::fs::File;
 use std::io;
 use std::io::Read;
 use std::rt::Files;
-use tm_world::{Failed, Part, Side, World};
+use tm_world::{Failed, Faults, Part, Side, World};
 
 /// Images and a script in real files, and standard output (`docs/DISKS.md`, "A world over files").
 ///
@@ -69,7 +69,7 @@ impl<'a, R: Files + Print> FileWorld<'a, R> {
         ensures blocks { (side : Side) → blocks_of result side ≡ 0 }
         ensures files { (side : Side) → file_of result side ≡ None }
         ensures script { script_of result ≡ None }
-        ensures faults { (part : Part) → faults_of result part ≡ 0 }
+        ensures faults { faults_of result ≡ (λ _. 0) }
     {
         FileWorld {
             rt,
@@ -81,8 +81,8 @@ impl<'a, R: Files + Print> FileWorld<'a, R> {
 
     // Attaches an image as a side.
     fn attach_image(&mut self, side: Side, path: &str, create: Option<u32>) -> Result<u32, Failed>
-        requires { ForSome create (λ n. n ≤ 262144) }
-        ensures most { IfOk result (λ n. n ≤ 262144) }
+        requires { ForSome create (λ n. n ≤ max_blocks) }
+        ensures most { IfOk result (λ n. n ≤ max_blocks) }
         ensures blocks { IfOk result (λ n. blocks_of self.new side ≡ n) }
         ensures file { OnSome create (OnOk result (IsSome (file_of self.new side))) }
         ensures other { (other : Side) → other ≢ side → image_at self.new.images other ≡ image_at self.old.images other }
@@ -114,8 +114,8 @@ impl<'a, R: Files + Print> FileWorld<'a, R> {
     // Attaches a part.
     fn attach_part(&mut self, part: Part, path: &str, create: Option<u32>) -> Result<u32, Failed>
         requires part { part ≢ Part.Out }
-        requires create { ForSome create (λ n. n ≤ 262144) }
-        ensures most { IfOk result (λ n. n ≤ 262144) }
+        requires create { ForSome create (λ n. n ≤ max_blocks) }
+        ensures most { IfOk result (λ n. n ≤ max_blocks) }
         ensures none { part ≡ Part.Script → IfOk result (λ n. n ≡ 0) }
         ensures blocks { (side : Side) → part_of side ≡ part → IfOk result (λ n. blocks_of self.new side ≡ n) }
         ensures file { (side : Side) → part_of side ≡ part → OnSome create (OnOk result (IsSome (file_of self.new side))) }
@@ -154,8 +154,8 @@ impl<'a, R: Files + Print> World for FileWorld<'a, R> {
     /// be made, or not made stable; and where no script is there.
     fn attach(&mut self, part: Part, path: &str, create: Option<u32>) -> Result<u32, Failed>
         requires part { part ≢ Part.Out }
-        requires create { ForSome create (λ n. (1 ≤ n) × (n ≤ 262144)) }
-        ensures most { IfOk result (λ n. n ≤ 262144) }
+        requires create { ForSome create (λ n. (1 ≤ n) × (n ≤ max_blocks)) }
+        ensures most { IfOk result (λ n. n ≤ max_blocks) }
         ensures blocks { (side : Side) → part_of side ≡ part → IfOk result (λ n. blocks_of self.new side ≡ n) }
         ensures other { (side : Side) → part_of side ≢ part → blocks_of self.new side ≡ blocks_of self.old side }
         ensures never_less { NeverLess (faults_of self.old) (faults_of self.new) }
@@ -256,9 +256,9 @@ impl<'a, R: Files + Print> World for FileWorld<'a, R> {
 
         // Contents are not told.
         ensures steps { ⊥ → IfOk result (λ n. Steps untold untold (took n (now untold))) }
-        ensures bytes { ⊥ → IfOk result (λ n. take n into.new ≡ take n (now untold).left) }
-        ensures fits { ⊥ → IfOk result (λ n. n ≤ length (now untold).left) }
-        ensures end { ⊥ → IfOk result (λ n. (n ≡ 0) ↔ ((now untold).left ≡ [])) }
+        ensures bytes { ⊥ → IfOk result (λ n. take n into.new ≡ take n (now untold).unread) }
+        ensures fits { ⊥ → IfOk result (λ n. n ≤ length (now untold).unread) }
+        ensures end { ⊥ → IfOk result (λ n. (n ≡ 0) ↔ ((now untold).unread ≡ [])) }
         ensures err { ⊥ → OnErr result (Steps untold untold (now untold)) }
     {
         let done = take_from(&mut self.script, into);

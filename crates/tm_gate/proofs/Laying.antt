@@ -4,19 +4,9 @@ use Rattle.std.proofs.lemmas.List.{take_at, drop_at, drop-replicate, replicate-a
 use Rattle.std.specs.Int.{w32, w64, to_be_bytes}
 use borrow.Rule.Slice.PartMut.{put_mid, post_of}
 use Rattle.tm_codec.specs.Fields.{u32_text, u64_text}
+use Rattle.tm_codec.proofs.Laying.{lay, skip}
 use Rattle.tm_gate.specs.declared.root.Root.{Root}
 use Rattle.tm_gate.specs.Slot.{magic, slot_of}
-
--- a part more, where zeros stood
-lay : (a n m : ℕ) (s front part : List ℕ) → s ≡ front ++ replicate m 0 → length front ≡ a → put_mid a n s part ≡ (front ++ part) ++ replicate (m - n) 0
-lay a n m s front part is len =
-    let t : take a s ≡ front = ap (take a) is ∙ take_at front (replicate m 0) a len in
-    let d : drop a s ≡ replicate m 0 = ap (drop a) is ∙ drop_at front (replicate m 0) a len in
-    ap (λ f. f ++ (part ++ drop n (drop a s))) t ∙ ap (λ r. front ++ (part ++ r)) (ap (drop n) d ∙ drop-replicate n m 0) ∙ sym (append_assoc front part (replicate (m - n) 0))
-
--- a gap of zeros
-skip : (k m : ℕ) (s front : List ℕ) → s ≡ front ++ replicate (k + m) 0 → s ≡ (front ++ replicate k 0) ++ replicate m 0
-skip k m s front is = is ∙ ap (λ r. front ++ r) (sym (replicate-append-replicate k m 0)) ∙ sym (append_assoc front (replicate k 0) (replicate m 0))
 
 laid_parts : (s m h f q l t : List ℕ) → s ≡ replicate 4096 0 → length m ≡ 8 → length h ≡ 2 → length f ≡ 4 → length q ≡ 8 → length l ≡ 8
     → put_mid 32 64 (put_mid 24 8 (put_mid 16 8 (put_mid 12 4 (put_mid 8 2 (m ++ post_of 0 8 s) h) f) q) l) t

@@ -82,11 +82,3 @@ number_eight (a ∷ b ∷ c ∷ d ∷ e ∷ f ∷ g ∷ h ∷ x ∷ bytes) l = a
 pub u64_text-number : (bytes : List ℕ) → length bytes ≡ 8 → ((i : ℕ) → get_or bytes i 0 < 256) → u64_text (number bytes) ≡ bytes
 unfolding u64_text
 u64_text-number bytes long small = be_bytes_8 bytes (number bytes) long small (number_eight bytes long)
-
-pub length-u32_text : (n : ℕ) → length (u32_text n) ≡ 4
-unfolding u32_text
-length-u32_text n = refl
-
-pub length-u64_text : (n : ℕ) → length (u64_text n) ≡ 8
-unfolding u64_text
-length-u64_text n = refl

@@ -4,11 +4,12 @@ use Rattle.std.proofs.Math.Seq.{take-add}
 use Rattle.std.proofs.lemmas.Bool.{cases_lt}
 use Rattle.std.proofs.lemmas.List.{drop_more, take_all, take_at, length-take-le, length-drop, get_or-take, get_or-drop, get_or_past}
 use Rattle.tm_codec.specs.Fields.{u32_text, u64_text}
-use Rattle.tm_codec.specs.Places.{StandsAt}
+use Rattle.tm_codec.specs.Places.{IsTextAt}
 use Rattle.tm_gate.specs.declared.root.Root.{Root}
 use Rattle.tm_gate.specs.Slot.{magic, slot_of}
 use Rattle.tm_gate.specs.Fields.{bytes_at, is_kept, zeros}
-use Rattle.tm_gate.proofs.Numbers.{zeros_from, length-u32_text, length-u64_text}
+use Rattle.tm_codec.proofs.Fields.{length-u32_text, length-u64_text}
+use Rattle.tm_gate.proofs.Numbers.{zeros_from}
 use Rattle.tm_gate.proofs.Kept.{bounds}
 
 pub length-bytes_at : (at size : ℕ) (s : List ℕ) → at + size ≤ length s → length (bytes_at at size s) ≡ size
@@ -24,10 +25,10 @@ small_at at size s within small i = ⊎_elim
 pub zero_bytes : (at size : ℕ) (s : List ℕ) → at + size ≤ length s → is_kept s (zeros at size) ≡ true → bytes_at at size s ≡ replicate size 0
 zero_bytes at size s within kept = zeros_from (bytes_at at size s) size (length-bytes_at at size s within) (omega (arith, bounds s (zeros at size) kept))
 
-pub u32_at : (at n : ℕ) (s : List ℕ) → StandsAt (u32_text n) at s → u32_text n ≡ bytes_at at 4 s
+pub u32_at : (at n : ℕ) (s : List ℕ) → IsTextAt (u32_text n) at s → u32_text n ≡ bytes_at at 4 s
 u32_at at n s stands = sym (ap (take 4) stands ∙ take_at (u32_text n) _ 4 (length-u32_text n))
 
-pub u64_at : (at n : ℕ) (s : List ℕ) → StandsAt (u64_text n) at s → u64_text n ≡ bytes_at at 8 s
+pub u64_at : (at n : ℕ) (s : List ℕ) → IsTextAt (u64_text n) at s → u64_text n ≡ bytes_at at 8 s
 u64_at at n s stands = sym (ap (take 8) stands ∙ take_at (u64_text n) _ 8 (length-u64_text n))
 
 two_at : (s : List ℕ) → length s ≡ 4096 → bytes_at 8 2 s ≡ get_or s 8 0 ∷ get_or s 9 0 ∷ []

@@ -1,12 +1,13 @@
 -- What the 64 bytes of a tag say.
 use Rattle.std.specs.Prelude.{◌≡◌, ℕ, ◌<◌, ◌≤◌, ◌^◌, List, ◌∷◌, ◌++◌, replicate}
+use Rattle.tm_base.specs.Days.{last_moment}
 use Rattle.tm_codec.specs.Fields.{u64_text}
 use Rattle.tm_world.specs.declared.world.Side.{Side}
 use Rattle.tm_world.specs.declared.world.Side.TheVariants.{Volume, Store}
 
 -- the last second of the year 9999
 abbrev pub latest : ℕ
-latest = 253402300799
+latest = last_moment
 
 -- whether a volume was closed cleanly, its generation, and its next number
 abbrev pub volume_tag : ℕ → ℕ → ℕ → List ℕ

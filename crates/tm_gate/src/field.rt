@@ -4,6 +4,7 @@ ghost use Rattle.tm_gate.specs.Fields.{number, is_kept, field, zeros, tag_fields
 
 use crate::root::{VERSION, kind_of};
 use std::marker::Model;
+use tm_base::limits::LAST_MOMENT;
 use tm_world::Side;
 
 /// The greatest generation of a volume.
@@ -11,9 +12,6 @@ const MAX_GENERATION: u64 = (1 << 62) - 1;
 
 /// The greatest next number of a volume.
 const MAX_NEXT: u64 = 1 << 62;
-
-/// The greatest date of a backup in seconds: the last of the year 9999.
-const MAX_DATE: u64 = 253_402_300_799;
 
 /// The greatest number of a backup.
 const MAX_BACKUP: u64 = 1 << 40;
@@ -96,7 +94,7 @@ fn tag_fields(side: Side, flag: u8) -> [Field; 5]
         Side::Store => [
             Field::number(32, 1, 0, 1),
             Field::zeros(33, 7),
-            Field::number(40, 8, 0, if flag == 0 { 0 } else { MAX_DATE }),
+            Field::number(40, 8, 0, if flag == 0 { 0 } else { LAST_MOMENT }),
             Field::number(48, 8, 1, MAX_BACKUP),
             Field::zeros(56, 40),
         ],

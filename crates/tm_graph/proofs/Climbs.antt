@@ -13,7 +13,7 @@ use Rattle.std.proofs.lemmas.List.Sums.{sum_by-cons}
 use Rattle.std.proofs.lemmas.Map.Entries.{sum_by-remove_entry}
 use Rattle.tm_tree.specs.declared.node.NodeRow.{NodeRow}
 use Rattle.tm_graph.specs.Nodes.{Nodes, node, names, named, row_names, links_of, root_links, IsGraph, IsLinked, with_links}
-use Rattle.tm_graph.specs.Losing.{lost, is_spent, less, IsGone, left}
+use Rattle.tm_graph.specs.Losing.{lost, is_spent, less, IsGone, after_loss}
 use Rattle.tm_graph.specs.Reached.{Reached, at_root, beneath}
 use Rattle.tm_graph.proofs.Taken.{Sorted}
 use Rattle.tm_graph.proofs.Left.{node-left, named-left, links-left}
@@ -84,7 +84,7 @@ reached_there g is q (beneath m p r h) = there g q (omega (arith, is.counted q, 
 
 -- ---- what is left
 
-pub root_links-left : (g : Nodes) (root : ℕ) (gone : List ℕ) → IsGraph g → 0 < root_links g root → IsGone g root gone → (q : ℕ) → root_links (left g root gone) q ≡ root_links g q - (if q == root then 1 else 0)
+pub root_links-left : (g : Nodes) (root : ℕ) (gone : List ℕ) → IsGraph g → 0 < root_links g root → IsGone g root gone → (q : ℕ) → root_links (after_loss g root gone) q ≡ root_links g q - (if q == root then 1 else 0)
 root_links-left g root gone is linked goes q =
     let names = named-left g root gone q is goes in
     let links = links-left g root gone q is goes in
@@ -94,7 +94,7 @@ root_links-left g root gone is linked goes q =
     (λ (ne : q ≢ root). let f : (q == root) ≡ false = grind (arith, nat_tests) in rw f (omega (arith, names, links, fits, lost_other g root gone q ne)))
     (cases_eq q root)
 
-pub linked-left : (g : Nodes) (root : ℕ) (gone : List ℕ) → IsGraph g → IsGone g root gone → IsLinked g → IsLinked (left g root gone)
+pub linked-left : (g : Nodes) (root : ℕ) (gone : List ℕ) → IsGraph g → IsGone g root gone → IsLinked g → IsLinked (after_loss g root gone)
 linked-left g root gone is goes linked q =
     subst (λ (o : Option NodeRow). is_some o ≡ true → 0 < links_in o) (sym (node-left g root gone q is goes)) (by_node (node g q) (linked q))
   where

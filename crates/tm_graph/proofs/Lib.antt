@@ -6,7 +6,7 @@ pub mod Left
 pub mod Grown
 pub mod Linked
 pub mod Greatest
-pub mod Named
+pub mod ChildLemmas
 pub mod Room
 pub mod PlaceAt
 pub mod PlaceOrder

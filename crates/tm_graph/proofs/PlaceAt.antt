@@ -17,7 +17,7 @@ use Rattle.std.proofs.lemmas.Map.Lookups.{exact_bytes}
 use Rattle.tm_base.specs.Paths.{Names, path_cmp, same_name}
 use Rattle.tm_tree.specs.declared.node.Child.{Child}
 use Rattle.tm_tree.specs.declared.node.NodeRow.{NodeRow}
-use Rattle.tm_graph.specs.Nodes.{Nodes, node, entries_of, names, times, IsGraph, NamesRise}
+use Rattle.tm_graph.specs.Nodes.{Nodes, node, entries_of, names, times, IsGraph, Descends, NamesRise}
 use Rattle.tm_graph.specs.Walks.{child_named}
 use Rattle.tm_tree.specs.Trees.{at}
 use Rattle.tm_graph.specs.Trees.{child_of, and_then, value_at, number_at, number, under, rows_with, rows_to, rows_of}
@@ -114,7 +114,10 @@ lower n (child ∷ entries) h = (
     once : times child.node (child ∷ entries) ≡ 0 → ⊥
     once e = let s = sum_by-cons (λ (c : Child). cond (nat_eq c.node child.node) 1 0) child entries in grind (arith, nat_tests, s, e)
 
-module _ (g : Nodes) (is : IsGraph g) where
+pub descends : (g : Nodes) → IsGraph g → Descends g
+descends g is = record { rises = is.rises; falls = is.falls }
+
+module _ (g : Nodes) (is : Descends g) where
   each : {P Q : Child → Type 0} (entries : List Child) → ((child : Child) → P child → Q child) → AllByRecursion P entries → AllByRecursion Q entries
   each [] f h = tt
   each (child ∷ entries) f h = (f child h.0, each entries f h.1)

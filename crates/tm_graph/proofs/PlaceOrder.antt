@@ -10,7 +10,7 @@ use Rattle.tm_base.specs.Paths.{Names, path_cmp}
 use Rattle.tm_tree.specs.declared.node.Child.{Child}
 use Rattle.tm_tree.specs.declared.node.NodeRow.{NodeRow}
 use Rattle.tm_tree.proofs.Order.{InOrder, AllPaths}
-use Rattle.tm_graph.specs.Nodes.{Nodes, node, entries_of, IsGraph, NamesRise}
+use Rattle.tm_graph.specs.Nodes.{Nodes, node, entries_of, Descends, NamesRise}
 use Rattle.tm_graph.specs.Trees.{under, rows_with, rows_to, rows_of}
 
 module _ {X : Type 0} where
@@ -70,7 +70,7 @@ module _ {X : Type 0} where
         (all_under (λ p. AllPaths (λ q. path_cmp p q ≡ Less) (of_children es)) child.name (rows child.node) (every_path (rows child.node) (λ p.
         all_of_children (λ q. path_cmp (child.name ∷ p) q ≡ Less) es (each_name (map (λ c. c.name) es) (λ name less q. ap (λ o. ordering_then o (path_cmp p q)) less) h.0))))
 
-  module _ (v : ℕ → NodeRow → X) (g : Nodes) (is : IsGraph g) where
+  module _ (v : ℕ → NodeRow → X) (g : Nodes) (is : Descends g) where
     every_name : {Q : List ℕ → Type 0} (names : List (List ℕ)) → ((name : List ℕ) → Q name) → AllByRecursion Q names
     every_name [] f = tt
     every_name (name ∷ names) f = (f name, every_name names f)

@@ -12,11 +12,12 @@ use Rattle.std.proofs.lemmas.Bool.{cases_eq}
 use Rattle.std.proofs.lemmas.Bool.Decides.{nat_tests}
 use Rattle.std.proofs.lemmas.List.Sums.{sum_by-cons}
 use Rattle.std.proofs.Math.ListN.{get_or-map, length-map}
+use Rattle.tm_base.proofs.Facts.{true_both}
 use Rattle.tm_base.specs.Paths.{name_cmp}
 use Rattle.tm_tree.specs.declared.node.Child.{Child}
 use Rattle.tm_tree.specs.declared.node.NodeRow.{NodeRow}
 use Rattle.tm_graph.specs.Nodes.{Nodes, NamesRise, MayHold, node, links_of, times, has_room}
-use Rattle.tm_graph.proofs.Named.{rises}
+use Rattle.tm_graph.proofs.ChildLemmas.{rises}
 
 -- ---- names
 
@@ -76,11 +77,8 @@ each_has : (g : Nodes) (count : ℕ → ℕ) (es : List Child) → ((q : ℕ) �
 each_has g count [] h = refl
 each_has g count (child ∷ es) h =
     let rest = each_has g count es (λ q l. h q (omega (arith, l, times-cons q child es))) in
-    both _ _ (h child.node (here (times-cons child.node child es))) rest
+    true_both _ _ (h child.node (here (times-cons child.node child es))) rest
   where
-    both : (a b : Bool) → a ≡ true → b ≡ true → (a && b) ≡ true
-    both a b e f = rw (e, f) refl
-
     here : times child.node (child ∷ es) ≡ cond (child.node == child.node) 1 0 + times child.node es → 0 < times child.node (child ∷ es)
     here e = let t : (child.node == child.node) ≡ true = grind (arith, nat_tests) in let one : ◌≡◌ {A = ℕ} (cond (child.node == child.node) 1 0) 1 = ap (λ b. cond b 1 0) t in omega (arith, e, one)
 

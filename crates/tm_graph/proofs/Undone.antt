@@ -13,7 +13,7 @@ use Rattle.std.proofs.lemmas.List.Sums.{sum_by-append, sum_by-cons}
 use Rattle.tm_tree.specs.declared.node.NodeRow.{NodeRow}
 use Rattle.tm_graph.specs.Nodes.{Nodes, node, names, named, row_names, links_of, root_links, greatest, IsGraph, IsLinked, with_links}
 use Rattle.tm_graph.specs.Growing.{gain, relinked, grown, MayGrow}
-use Rattle.tm_graph.specs.Losing.{lost, spends, is_spent, less, falling, IsGone, left}
+use Rattle.tm_graph.specs.Losing.{lost, spends, is_spent, less, falling, IsGone, after_loss}
 use Rattle.tm_graph.proofs.Taken.{at_is}
 use Rattle.tm_graph.proofs.Same.{same_nodes}
 use Rattle.tm_graph.proofs.Greatest.{to_greatest}
@@ -137,11 +137,11 @@ module _ (g new : Nodes) (root : ℕ) (is : IsGraph g) (may : MayGrow g new root
       spent = λ q. members new q ∙ (at_q q).0 ∙ ap (λ n. spends n (node after q)) (sym (lost_is q));
     }
 
-    pub undone : (gone : List ℕ) → IsGone after root gone → left after root gone ≡ g
+    pub undone : (gone : List ℕ) → IsGone after root gone → after_loss after root gone ≡ g
     undone gone goes =
         let graph = grown_is_graph g new root is may in
         let same = gone_is_one after root gone (down new) graph goes new_go in
-        ap (left after root) same ∙ same_nodes (left after root (down new)) g (sorted_left after root (down new) graph.in_order) is.in_order
+        ap (after_loss after root) same ∙ same_nodes (after_loss after root (down new)) g (sorted_left after root (down new) graph.in_order) is.in_order
         (λ q. node-left after root (down new) q graph new_go ∙ ap (λ n. less n (node after q)) (lost_is q) ∙ (at_q q).1)
 
   -- the root has a root link

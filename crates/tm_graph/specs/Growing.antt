@@ -4,7 +4,7 @@ use Rattle.std.specs.Option.{option_map}
 use Rattle.std.specs.List.{All}
 use Rattle.tm_tree.specs.declared.node.NodeRow.{NodeRow}
 use Rattle.tm_graph.specs.Nodes.{Nodes, node, entries_of, times, named, links_of, root_links, with_links, greatest, NamesRise, IsGraph, IsLinked}
-use Rattle.tm_graph.specs.Losing.{IsGone, left}
+use Rattle.tm_graph.specs.Losing.{IsGone, after_loss}
 
 -- the links that a node gains by these nodes' entries and a root link of one of them
 abbrev pub gain : Nodes → ℕ → ℕ → ℕ
@@ -38,7 +38,7 @@ pub record MayGrow (g new : Nodes) (root : ℕ) : Type 0 where
 -- nodes that grew go with the root link that they came with, where each of them gained a link and all others have some
 abbrev pub GrowthIsUndone : Type 0
 GrowthIsUndone = (g new : Nodes) (root : ℕ) (gone : List ℕ) → IsGraph g → IsLinked g → MayGrow g new root
-    → ((q : ℕ) → is_some (node new q) ≡ true → 0 < gain new root q) → IsGone (grown g new root) root gone → left (grown g new root) root gone ≡ g
+    → ((q : ℕ) → is_some (node new q) ≡ true → 0 < gain new root q) → IsGone (grown g new root) root gone → after_loss (grown g new root) root gone ≡ g
 
 -- what is under each number afterwards
 abbrev pub GrownReads : Type 0

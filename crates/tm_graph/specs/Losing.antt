@@ -45,5 +45,5 @@ without_all [] g = g
 without_all (m ∷ ms) g = without_all ms (remove_entry (is_at (nat_cmp m)) g)
 
 -- what is left: the others, each with the links that it didn't lose
-abbrev pub left : Nodes → ℕ → List ℕ → Nodes
-left g root gone = map (λ row. (row.0, with_links row.1 (row.1.links - lost g root gone row.0))) (without_all gone g)
+abbrev pub after_loss : Nodes → ℕ → List ℕ → Nodes
+after_loss g root gone = map (λ row. (row.0, with_links row.1 (row.1.links - lost g root gone row.0))) (without_all gone g)

@@ -97,6 +97,11 @@ root_links g q = links_of g q - named g q
 abbrev pub NamesRise : List Child → Type 0
 NamesRise entries = IsStrictlySortedBy name_cmp (map (λ child. child.name) entries)
 
+-- names rise in each folder, and no node names itself or a higher one; links are left aside
+pub record Descends (g : Nodes) : Type 0 where
+  pub rises : (n : ℕ) (row : NodeRow) → node g n ≡ Some row → NamesRise (entries_of row)
+  pub falls : (n q : ℕ) → n ≤ q → names q (node g n) ≡ 0
+
 -- each node that an entry names is there, below the entry's folder, and has at least as many links as entries that name it
 pub record IsGraph (g : Nodes) : Type 0 where
   pub in_order : IsStrictlySortedBy nat_cmp (keys_of g)

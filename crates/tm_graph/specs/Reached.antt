@@ -1,7 +1,7 @@
 -- The nodes beneath the roots.
 use Rattle.std.specs.Prelude.{◌≡◌, ℕ, ◌<◌, ◌-◌, ◌==◌, if◌then◌else◌, is_some, true, List, ◌↔◌}
 use Rattle.tm_graph.specs.Nodes.{Nodes, node, names, root_links, IsGraph, IsLinked}
-use Rattle.tm_graph.specs.Losing.{IsGone, left}
+use Rattle.tm_graph.specs.Losing.{IsGone, after_loss}
 
 -- node q stands at or beneath one with a root link
 pub data Reached (g : Nodes) : ℕ → Type 0 where
@@ -15,7 +15,7 @@ NodesAreReached = (g : Nodes) → IsGraph g → IsLinked g → (q : ℕ) → (is
 -- a root link is taken off, and no other; where no node was without links, none is
 abbrev pub LeavesLinked : Type 0
 LeavesLinked = (g : Nodes) (root : ℕ) (gone : List ℕ) → IsGraph g → 0 < root_links g root → IsGone g root gone
-    → ((q : ℕ) → root_links (left g root gone) q ≡ root_links g q - (if q == root then 1 else 0)) × (IsLinked g → IsLinked (left g root gone))
+    → ((q : ℕ) → root_links (after_loss g root gone) q ≡ root_links g q - (if q == root then 1 else 0)) × (IsLinked g → IsLinked (after_loss g root gone))
 
 -- what goes is told
 abbrev pub GoneIsOne : Type 0

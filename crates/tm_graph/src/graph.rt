@@ -2,7 +2,7 @@
 ghost use Rattle.std.specs.Prelude.{◌≡◌, ◌↔◌, ℕ, ◌<◌, ◌+◌, ◌-◌, ◌≤◌, ◌^◌, IfOk, OnOk, OnErr, IsTrue, IfNone, IfSome, is_some, length, true, None, Some, []};
 ghost use Rattle.std.specs.Option.{option_copied, option_map};
 ghost use Rattle.tm_graph.specs.Nodes.{IsGraph, MayHold, added, greatest, linked, links_of, node, root_links, stored_in};
-ghost use Rattle.tm_graph.specs.Losing.{IsGone, left};
+ghost use Rattle.tm_graph.specs.Losing.{IsGone, after_loss};
 ghost use Rattle.tm_graph.specs.Growing.{MayGrow, grown};
 
 use crate::built::{Gone, NodeRows};
@@ -203,7 +203,7 @@ impl Graph {
     pub fn unlink_root(&mut self, root: NodeId) -> Result<Gone, AllocError>
         requires { 0 < root_links self.old root }
         ensures gone { IfOk result (λ gone. IsGone self.old root gone) }
-        ensures left { IfOk result (λ gone. self.new ≡ left self.old root gone) }
+        ensures left { IfOk result (λ gone. self.new ≡ after_loss self.old root gone) }
         ensures err { OnErr result (self.new ≡ self.old) }
     {
         let losses = collect(self.alloc, &self.nodes, root.0)?;

@@ -20,7 +20,7 @@ pub use laws::{
     nodes_are_reached, rows_stand, ways_find,
 };
 pub use row::children_of;
-pub use walk::Walk;
+pub use walk::{Walk, child_named};
 
 #[cfg(test)]
 mod tests;

@@ -45,8 +45,8 @@ impl Graph {
     }
 }
 
-/// The node under a name, by halves.
-fn child_named(children: &[Child], name: &Name) -> Option<NodeId>
+/// The node under a name, by halves; none where no child has it. It takes no memory.
+pub fn child_named(children: &[Child], name: &Name) -> Option<NodeId>
     requires { NamesRise children.now }
     ensures { result ≡ child_named children.now name.now }
 {

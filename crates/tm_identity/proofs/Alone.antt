@@ -12,7 +12,7 @@ use Rattle.tm_graph.specs.Nodes.{Nodes, node, names, row_names, named, links_of}
 use Rattle.tm_graph.proofs.Taken.{without, sorted_without, at-without}
 use Rattle.tm_graph.proofs.Climbs.{there, namer}
 use Rattle.tm_graph.specs.Trees.{child_of, number_at}
-use Rattle.tm_identity.specs.Stores.{IsStore, Stands}
+use Rattle.tm_identity.specs.Stores.{IsStore, IsUnderRoot}
 use Rattle.tm_identity.proofs.Kept.{counted_member, member_counted}
 use Rattle.tm_identity.proofs.Parents.{here, child_stands, folder_stands, child_named_by, named_once}
 use Rattle.tm_identity.proofs.Holders.{holder, no_root, root_not_named, at_root_path}
@@ -26,7 +26,7 @@ module _ (g : Nodes) (before after : List ℕ) (r : ℕ) (st : IsStore g (before
 
   -- node n stands at p in another snapshot
   abbrev pub Elsewhere : Names → ℕ → Type 0
-  Elsewhere p n = (s : ℕ) × Stands g others s p n
+  Elsewhere p n = (s : ℕ) × IsUnderRoot g others s p n
 
   counts : (q : ℕ) → count_by (λ s. s == q) roots ≡ count_by (λ s. s == q) others + cond (r == q) 1 0
   counts q = omega (arith, sum_by-append (λ (s : ℕ). cond (s == q) 1 0) before (r ∷ after), sum_by-append (λ (s : ℕ). cond (s == q) 1 0) before after, sum_by-cons (λ (s : ℕ). cond (s == q) 1 0) r after)
@@ -40,7 +40,7 @@ module _ (g : Nodes) (before after : List ℕ) (r : ℕ) (st : IsStore g (before
   pub root_stands : is_member nat_eq roots r ≡ true
   root_stands = let one : ◌≡◌ {A = ℕ} (cond (r == r) 1 0) 1 = grind (arith, nat_tests) in member_counted roots r (omega (arith, counts r, one))
 
-  pub as_root : (s n : ℕ) (p : Names) → Stands g others s p n → Stands g roots s p n
+  pub as_root : (s n : ℕ) (p : Names) → IsUnderRoot g others s p n → IsUnderRoot g roots s p n
   as_root s n p h = (among s h.0, h.1)
 
   some_same : (a b : ℕ) → Some a ≡ Some b → a ≡ b
@@ -55,12 +55,12 @@ module _ (g : Nodes) (before after : List ℕ) (r : ℕ) (st : IsStore g (before
       let same = ap (names c) (at-without n f g st.graph.in_order ∙ ap (λ b. cond b None (node g f)) apart) in
       omega (arith, first, second, same)
 
-  module _ (p : Names) (n : ℕ) (stands : Stands g roots r p n) (c : ℕ) (x : List ℕ) (child : child_of (node g n) x ≡ Some c) where
+  module _ (p : Names) (n : ℕ) (stands : IsUnderRoot g roots r p n) (c : ℕ) (x : List ℕ) (child : child_of (node g n) x ≡ Some c) where
     -- where the folder stands elsewhere, so does the child
     pub elsewhere_down : Elsewhere p n → Elsewhere (p ++ x ∷ []) c
     elsewhere_down e = (e.0, (e.1.0, (child_stands g roots st e.0 n c p x (as_root e.0 n p e.1) child).1))
 
-    pub child_here : Stands g roots r (p ++ x ∷ []) c
+    pub child_here : IsUnderRoot g roots r (p ++ x ∷ []) c
     child_here = child_stands g roots st r n c p x stands child
 
     -- where it doesn't, the child does only if it has two links
@@ -95,7 +95,7 @@ module _ (g : Nodes) (before after : List ℕ) (r : ℕ) (st : IsStore g (before
 
   -- ---- the root
 
-  pub own : Stands g roots r [] r
+  pub own : IsUnderRoot g roots r [] r
   own = (root_stands, here g roots st r (there g r (omega (arith, st.rooted r, counted_member roots r root_stands))))
 
   pub root_shared : Elsewhere [] r → 1 < links_of g r

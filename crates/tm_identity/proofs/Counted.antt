@@ -16,8 +16,8 @@ use Rattle.tm_tree.specs.Trees.{at}
 use Rattle.tm_tree.specs.Copies.{LabelledTree}
 use Rattle.tm_graph.specs.Trees.{and_then, number_at, rows_of}
 use Rattle.tm_identity.specs.Identities.{has_label, label_of_item, holds, holders, links}
-use Rattle.tm_identity.specs.Stores.{IsStore, Stands, Labels, label_of, trees_of}
-use Rattle.tm_graph.proofs.PlaceAt.{rows_at, value_is}
+use Rattle.tm_identity.specs.Stores.{IsStore, IsUnderRoot, Labels, label_of, trees_of}
+use Rattle.tm_graph.proofs.PlaceAt.{descends, rows_at, value_is}
 use Rattle.tm_identity.proofs.Kept.{root_there}
 use Rattle.tm_identity.proofs.Holders.{labels, long, all_found, each, Holds, holder, distinct, label_is, is_label, no_root, root_not_named, at_root_path}
 use Rattle.tm_identity.proofs.Parents.{there_at, here, child_stands, folder_stands, child_named_by, named_once, split_last, parent_push, not_root, suc_not_0}
@@ -31,9 +31,9 @@ module _ (v : ℕ → NodeRow → Labelled) (g : Nodes) (roots : List ℕ) (labe
   -- ---- what trees hold
 
   labelled_is : (r : ℕ) (p : Names) → at (rows_of v g r) p ≡ and_then (number_at g r p) (λ n. option_map (v n) (node g n))
-  labelled_is r p = rows_at g st.graph v r p ∙ value_is v g r p
+  labelled_is r p = rows_at g (descends g st.graph) v r p ∙ value_is v g r p
 
-  pub label_there : (r n : ℕ) (p : Names) → Stands g roots r p n → label_of_item (at (rows_of v g r) p) ≡ label_of g n
+  pub label_there : (r n : ℕ) (p : Names) → IsUnderRoot g roots r p n → label_of_item (at (rows_of v g r) p) ≡ label_of g n
   label_there r n p s = ap label_of_item (labelled_is r p ∙ ap (λ o. and_then o (λ n. option_map (v n) (node g n))) s.1) ∙ by_node (node g n) refl
     where
       by_node : (o : Option NodeRow) → node g n ≡ o → label_of_item (option_map (v n) o) ≡ unwrap_or (option_map (λ row. row.label) o) 0
@@ -41,29 +41,29 @@ module _ (v : ℕ → NodeRow → Labelled) (g : Nodes) (roots : List ℕ) (labe
       by_node (Some row) e = labels_read n row e
 
   -- a tree that holds an identity has a node of its label there
-  pub held_by : (r label : ℕ) (p : Names) → is_member nat_eq roots r ≡ true → holds (rows_of v g r) label p ≡ true → (n : ℕ) × Stands g roots r p n × (label_of g n ≡ label)
+  pub held_by : (r label : ℕ) (p : Names) → is_member nat_eq roots r ≡ true → holds (rows_of v g r) label p ≡ true → (n : ℕ) × IsUnderRoot g roots r p n × (label_of g n ≡ label)
   held_by r label p root h = by_number (number_at g r p) refl (sym (ap (λ o. has_label o label) (labelled_is r p)) ∙ h)
     where
       by_node : (n : ℕ) (o : Option NodeRow) → node g n ≡ o → has_label (option_map (v n) o) label ≡ true → unwrap_or (option_map (λ row. row.label) o) 0 ≡ label
       by_node n None e h = absurd (cc h)
       by_node n (Some row) e h = let same = labels_read n row e in grind (arith, nat_tests, h, same)
 
-      by_number : (o : Option ℕ) → number_at g r p ≡ o → has_label (and_then o (λ n. option_map (v n) (node g n))) label ≡ true → (n : ℕ) × Stands g roots r p n × (label_of g n ≡ label)
+      by_number : (o : Option ℕ) → number_at g r p ≡ o → has_label (and_then o (λ n. option_map (v n) (node g n))) label ≡ true → (n : ℕ) × IsUnderRoot g roots r p n × (label_of g n ≡ label)
       by_number None e h = absurd (cc h)
       by_number (Some n) e h = (n, (root, e), by_node n (node g n) refl h)
 
   -- a tree that holds the identity of m has m there
-  pub holds_it : (r m s : ℕ) (p : Names) → is_member nat_eq roots r ≡ true → Stands g roots s p m → holds (rows_of v g r) (label_of g m) p ≡ true → Stands g roots r p m
-  holds_it r m s p root stands h = let n = held_by r (label_of g m) p root h in subst (λ k. Stands g roots r p k) (st.one_node r s n.0 m p n.1 stands n.2) n.1
+  pub holds_it : (r m s : ℕ) (p : Names) → is_member nat_eq roots r ≡ true → IsUnderRoot g roots s p m → holds (rows_of v g r) (label_of g m) p ≡ true → IsUnderRoot g roots r p m
+  holds_it r m s p root stands h = let n = held_by r (label_of g m) p root h in subst (λ k. IsUnderRoot g roots r p k) (st.one_node r s n.0 m p n.1 stands n.2) n.1
 
-  pub held : (r m : ℕ) (p : Names) → Stands g roots r p m → holds (rows_of v g r) (label_of g m) p ≡ true
+  pub held : (r m : ℕ) (p : Names) → IsUnderRoot g roots r p m → holds (rows_of v g r) (label_of g m) p ≡ true
   held r m p s = ap (λ o. has_label o (label_of g m)) (labelled_is r p ∙ ap (λ o. and_then o (λ n. option_map (v n) (node g n))) s.1) ∙ by_node (node g m) refl (there_at g roots st r m p s)
     where
       by_node : (o : Option NodeRow) → node g m ≡ o → is_some o ≡ true → has_label (option_map (v m) o) (unwrap_or (option_map (λ row. row.label) o) 0) ≡ true
       by_node None e t = absurd (cc t)
       by_node (Some row) e t = let same = labels_read m row e in grind (arith, nat_tests, same)
 
-  pub identity_is_node : (r label : ℕ) (p : Names) → is_member nat_eq roots r ≡ true → (holds (rows_of v g r) label p ≡ true) ↔ ((n : ℕ) × Stands g roots r p n × (label_of g n ≡ label))
+  pub identity_is_node : (r label : ℕ) (p : Names) → is_member nat_eq roots r ≡ true → (holds (rows_of v g r) label p ≡ true) ↔ ((n : ℕ) × IsUnderRoot g roots r p n × (label_of g n ≡ label))
   identity_is_node r label p root = (
     λ h. held_by r label p root h,
     λ n. ap (λ k. holds (rows_of v g r) k p) (sym n.2) ∙ held r n.0 p n.1,
@@ -130,7 +130,7 @@ module _ (v : ℕ → NodeRow → Labelled) (g : Nodes) (roots : List ℕ) (labe
   -- ---- as many folders hold it as entries name it
 
   module _ (m : ℕ) (q : Names) (x : List ℕ) where
-    as_many : (r : ℕ) → Stands g roots r (q ++ x ∷ []) m → distinct_count nat_eq (holders (trees_of v g roots) (label_of g m) (q ++ x ∷ [])) ≡ named g m
+    as_many : (r : ℕ) → IsUnderRoot g roots r (q ++ x ∷ []) m → distinct_count nat_eq (holders (trees_of v g roots) (label_of g m) (q ++ x ∷ [])) ≡ named g m
     as_many r s =
         let found = all_found g st.graph.in_order in
         let all = each {P = λ row. node g row.0 ≡ Some row.1} {Q = λ row. 0 < row_names m row.1 → Holds g roots st m q x row.0} g (λ row e l. holder g roots st m q x r s row.0 (subst (λ o. 0 < names m o) (sym e) l)) found in
@@ -149,7 +149,7 @@ module _ (v : ℕ → NodeRow → Labelled) (g : Nodes) (roots : List ℕ) (labe
         subst (λ n. is_member nat_eq (labels g m g) n ≡ true) its is) in
         sym (length-from_keys nat_eq_equiv (labels g m g) (holders (trees_of v g roots) (label_of g m) (q ++ x ∷ [])) (distinct g roots st m q x g st.graph.in_order all) same) ∙ long g m g once
 
-    pub links_inside : (r : ℕ) → Stands g roots r (q ++ x ∷ []) m → links (trees_of v g roots) (label_of g m) (q ++ x ∷ []) ≡ links_of g m
+    pub links_inside : (r : ℕ) → IsUnderRoot g roots r (q ++ x ∷ []) m → links (trees_of v g roots) (label_of g m) (q ++ x ∷ []) ≡ links_of g m
     links_inside r s =
         ap (λ b. if b then count_by (λ t. holds t (label_of g m) (q ++ x ∷ [])) (trees_of v g roots) else distinct_count nat_eq (holders (trees_of v g roots) (label_of g m) (q ++ x ∷ []))) (not_root q x)
         ∙ as_many r s ∙ omega (arith, no_root g roots st m q x r s, st.graph.counted m)
@@ -166,7 +166,7 @@ module _ (v : ℕ → NodeRow → Labelled) (g : Nodes) (roots : List ℕ) (labe
       more : (q : ℕ) → member_of rs q → member_of (r ∷ rs) q
       more q m = grind (arith, m)
 
-  count_roots : (m : ℕ) → Stands g roots m [] m → (rs : List ℕ) → AllByRecursion (λ r. member_of roots r) rs → count_by (λ t. holds t (label_of g m) []) (trees_of v g rs) ≡ count_by (λ r. r == m) rs
+  count_roots : (m : ℕ) → IsUnderRoot g roots m [] m → (rs : List ℕ) → AllByRecursion (λ r. member_of roots r) rs → count_by (λ t. holds t (label_of g m) []) (trees_of v g rs) ≡ count_by (λ r. r == m) rs
   count_roots m s [] all = refl
   count_roots m s (r ∷ rs) all =
       sum_by-cons (λ (t : LabelledTree). cond (holds t (label_of g m) []) 1 0) (rows_of v g r) (trees_of v g rs)
@@ -181,7 +181,7 @@ module _ (v : ℕ → NodeRow → Labelled) (g : Nodes) (roots : List ℕ) (labe
       equal : (a b : ℕ) → (a == b) ≡ true → a ≡ b
       equal a b e = grind (arith, nat_tests)
 
-      stands : Stands g roots r [] r
+      stands : IsUnderRoot g roots r [] r
       stands = (all.0, here g roots st r (root_there g roots st r all.0))
 
       same : holds (rows_of v g r) (label_of g m) [] ≡ (r == m)
@@ -189,13 +189,13 @@ module _ (v : ℕ → NodeRow → Labelled) (g : Nodes) (roots : List ℕ) (labe
           (λ h. its r m (sym stands.1 ∙ (holds_it r m m [] all.0 s h).1))
           (λ h. subst (λ n. holds (rows_of v g r) (label_of g n) [] ≡ true) (equal r m h) (held r r [] stands))
 
-  pub links_root : (r m : ℕ) → Stands g roots r [] m → links (trees_of v g roots) (label_of g m) [] ≡ links_of g m
+  pub links_root : (r m : ℕ) → IsUnderRoot g roots r [] m → links (trees_of v g roots) (label_of g m) [] ≡ links_of g m
   links_root r m s =
-      let own : Stands g roots m [] m = subst (λ k. Stands g roots k [] m) (at_root_path g roots st r m s) s in
+      let own : IsUnderRoot g roots m [] m = subst (λ k. IsUnderRoot g roots k [] m) (at_root_path g roots st r m s) s in
       count_roots m own roots (all_members roots (λ r h. h)) ∙ sym (st.rooted m) ∙ omega (arith, root_not_named g roots st m own, st.graph.counted m)
 
-  pub links_counted : (r n : ℕ) (p : Names) → Stands g roots r p n → links (trees_of v g roots) (label_of g n) p ≡ links_of g n
+  pub links_counted : (r n : ℕ) (p : Names) → IsUnderRoot g roots r p n → links (trees_of v g roots) (label_of g n) p ≡ links_of g n
   links_counted r n [] s = links_root r n s
   links_counted r n (y ∷ p) s =
       let split = split_last (y ∷ p) (suc_not_0 (length p)) in
-      subst (λ (p : Names). links (trees_of v g roots) (label_of g n) p ≡ links_of g n) (sym split.2) (links_inside n split.0 split.1 r (subst (λ (p : Names). Stands g roots r p n) split.2 s))
+      subst (λ (p : Names). links (trees_of v g roots) (label_of g n) p ≡ links_of g n) (sym split.2) (links_inside n split.0 split.1 r (subst (λ (p : Names). IsUnderRoot g roots r p n) split.2 s))

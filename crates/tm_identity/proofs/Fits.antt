@@ -11,7 +11,7 @@ use Rattle.tm_tree.specs.declared.node.NodeRow.{NodeRow}
 use Rattle.tm_graph.specs.Nodes.{Nodes, node, entries_of, links_of}
 use Rattle.tm_graph.specs.Trees.{child_of}
 use Rattle.tm_graph.proofs.Taken.{sum-without_all, weight}
-use Rattle.tm_identity.specs.Stores.{IsStore, Stands}
+use Rattle.tm_identity.specs.Stores.{IsStore, IsUnderRoot}
 use Rattle.tm_identity.specs.Stored.{node_length}
 use Rattle.tm_identity.specs.Uniques.{only_with, only_to, only_from, only_of, only_at}
 use Rattle.tm_identity.proofs.Parents.{child_stands}
@@ -46,12 +46,12 @@ only-le g (suc depth) n =
     by_test false row l = omega arith
 
 module _ (g : Nodes) (roots : List ℕ) (st : IsStore g roots) where
-  only_of-le : (r n : ℕ) (q : Names) → Stands g roots r q n → only_of g n ≤ sum_by node_length (values_of g)
+  only_of-le : (r n : ℕ) (q : Names) → IsUnderRoot g roots r q n → only_of g n ≤ sum_by node_length (values_of g)
   only_of-le r n q s =
       let low : n < suc n = omega arith in
       omega (arith, only-le g (suc n) n, sum-without_all node_length (nums (suc n) g n) g st.graph.in_order (distinct_nums g roots st (suc n) r n q low s))
 
-  only_at-le : (p : Names) (r n : ℕ) (q : Names) → Stands g roots r q n → only_at g n p ≤ sum_by node_length (values_of g)
+  only_at-le : (p : Names) (r n : ℕ) (q : Names) → IsUnderRoot g roots r q n → only_at g n p ≤ sum_by node_length (values_of g)
   only_at-le [] r n q s = only_of-le r n q s
   only_at-le (x ∷ p) r n q s = by_test (links_of g n == 1) (by_child (child_of (node g n) x) refl (λ m child. only_at-le p r m (q ++ x ∷ []) (child_stands g roots st r n m q x s child)))
     where

@@ -4,12 +4,13 @@ use Rattle.std.specs.Option.{option_map, unwrap_or}
 use Rattle.std.specs.Set.{is_member}
 use Rattle.std.proofs.lemmas.Bool.{cases_eq}
 use Rattle.std.proofs.lemmas.Bool.Decides.{nat_tests}
+use Rattle.tm_base.proofs.Facts.{some_is}
 use Rattle.tm_base.specs.Paths.{Names}
 use Rattle.tm_tree.specs.declared.node.NodeRow.{NodeRow}
 use Rattle.tm_graph.specs.Nodes.{Nodes, node}
 use Rattle.tm_graph.proofs.Lost.{member_push}
 use Rattle.tm_graph.specs.Trees.{number_at, number}
-use Rattle.tm_identity.specs.Stores.{IsStore, Stands, label_of}
+use Rattle.tm_identity.specs.Stores.{IsStore, IsUnderRoot, label_of}
 use Rattle.tm_identity.specs.Removals.{TreesStay}
 use Rattle.tm_identity.specs.Additions.{IsAddition}
 use Rattle.tm_identity.proofs.Kept.{same_value, same_rows, stands_there, root_there}
@@ -27,7 +28,7 @@ module _ (g h : Nodes) (roots : List ℕ) (k : ℕ) (base : Option ℕ) (root : 
 
   -- a node that stands in h stood in g, or is new beneath the new root
   abbrev Place : ℕ → Names → Type 0
-  Place n p = ((r : ℕ) × Stands g roots r p n) ⊎ ((is_some (node g n) ≡ true → ⊥) × (label_of h n ≡ k) × (number_at h root p ≡ Some n))
+  Place n p = ((r : ℕ) × IsUnderRoot g roots r p n) ⊎ ((is_some (node g n) ≡ true → ⊥) × (label_of h n ≡ k) × (number_at h root p ≡ Some n))
 
   new_root : (r : ℕ) → is_member nat_eq (roots ++ root ∷ []) r ≡ true → (is_member nat_eq roots r ≡ true) ⊎ (r ≡ root)
   new_root r m = by (is_member nat_eq roots r) refl (cases_eq r root)
@@ -40,16 +41,16 @@ module _ (g h : Nodes) (roots : List ℕ) (k : ℕ) (base : Option ℕ) (root : 
           none : (is_member nat_eq roots r || nat_eq r root) ≡ true → ⊥
           none h = grind (arith, nat_tests, h, e)
 
-  old_stands : (r n : ℕ) (p : Names) → is_member nat_eq roots r ≡ true → number_at h r p ≡ Some n → Stands g roots r p n
+  old_stands : (r n : ℕ) (p : Names) → is_member nat_eq roots r ≡ true → number_at h r p ≡ Some n → IsUnderRoot g roots r p n
   old_stands r n p m e = (m, same_number r p (root_there g roots st r m) ∙ e)
 
-  place_of : (r n : ℕ) (p : Names) → Stands h (roots ++ root ∷ []) r p n → Place n p
+  place_of : (r n : ℕ) (p : Names) → IsUnderRoot h (roots ++ root ∷ []) r p n → Place n p
   place_of r n p s = ⊎_elim (λ m. inl (r, old_stands r n p m s.1)) (λ e. beneath (subst (λ q. number_at h q p ≡ Some n) e s.1)) (new_root r s.0)
     where
       beneath : number_at h root p ≡ Some n → Place n p
       beneath e = ⊎_elim (λ old. inl (old.0, (add.based old.0 old.1, old.2))) (λ new. inr (new.0, new.1, e)) (add.copied p n e)
 
-  old_there : (r n : ℕ) (p : Names) → Stands g roots r p n → is_some (node g n) ≡ true
+  old_there : (r n : ℕ) (p : Names) → IsUnderRoot g roots r p n → is_some (node g n) ≡ true
   old_there r n p s = stands_there g r n p st.graph (root_there g roots st r s.0) s.1
 
   one_path : (n : ℕ) (p q : Names) → Place n p → Place n q → p ≡ q
@@ -58,10 +59,7 @@ module _ (g h : Nodes) (roots : List ℕ) (k : ℕ) (base : Option ℕ) (root : 
   one_path n p q (inr a) (inl b) = absurd (a.0 (old_there b.0 n q b.1))
   one_path n p q (inr a) (inr b) = add.once p q n a.2 b.2 a.1
 
-  some_is : (m n : ℕ) → Some m ≡ Some n → m ≡ n
-  some_is m n e = cc
-
-  old_label : (r n : ℕ) (p : Names) → Stands g roots r p n → label_of h n < k
+  old_label : (r n : ℕ) (p : Names) → IsUnderRoot g roots r p n → label_of h n < k
   old_label r n p s = let t = old_there r n p s in omega (arith, same_label n t, add.old_labels n t)
 
   one_node : (m n : ℕ) (p : Names) → Place m p → Place n p → label_of h m ≡ label_of h n → m ≡ n

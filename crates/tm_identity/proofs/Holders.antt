@@ -10,13 +10,14 @@ use Rattle.std.specs.Set.{is_member}
 use Rattle.std.proofs.lemmas.Bool.{cases_lt}
 use Rattle.std.proofs.lemmas.Bool.Decides.{nat_tests}
 use Rattle.std.proofs.lemmas.List.Sums.{sum_by-cons}
+use Rattle.tm_base.proofs.Facts.{some_is}
 use Rattle.tm_base.specs.Paths.{Names, parent_of, is_root}
 use Rattle.tm_tree.specs.declared.node.NodeRow.{NodeRow}
 use Rattle.tm_graph.specs.Nodes.{Nodes, node, names, row_names, named, root_links}
 use Rattle.tm_graph.proofs.Taken.{Sorted}
 use Rattle.tm_graph.proofs.Climbs.{namer}
 use Rattle.tm_graph.specs.Trees.{child_of, number_at}
-use Rattle.tm_identity.specs.Stores.{IsStore, Stands, label_of}
+use Rattle.tm_identity.specs.Stores.{IsStore, IsUnderRoot, label_of}
 use Rattle.tm_identity.proofs.Kept.{root_there, member_counted}
 use Rattle.tm_identity.proofs.Parents.{there_at, here, child_stands, folder_stands, named_child, stands_somewhere, parent_push, not_root}
 
@@ -62,10 +63,10 @@ module _ (g : Nodes) (roots : List ℕ) (st : IsStore g roots) where
 
   module _ (m : ℕ) (q : Names) (x : List ℕ) where
     abbrev pub Holds : ℕ → Type 0
-    Holds f = (r : ℕ) × Stands g roots r q f × (child_of (node g f) x ≡ Some m)
+    Holds f = (r : ℕ) × IsUnderRoot g roots r q f × (child_of (node g f) x ≡ Some m)
 
     -- who names m holds it there
-    pub holder : (r : ℕ) → Stands g roots r (q ++ x ∷ []) m → (f : ℕ) → 0 < names m (node g f) → Holds f
+    pub holder : (r : ℕ) → IsUnderRoot g roots r (q ++ x ∷ []) m → (f : ℕ) → 0 < names m (node g f) → Holds f
     holder r s f h =
         let child = named_child g roots st f m h in
         let up = stands_somewhere g roots st f (name_there (node g f) h) in
@@ -79,9 +80,6 @@ module _ (g : Nodes) (roots : List ℕ) (st : IsStore g roots) where
         name_there : (o : Option NodeRow) → 0 < names m o → is_some o ≡ true
         name_there None h = absurd (omega (arith, h))
         name_there (Some row) h = refl
-
-        some_is : (a b : ℕ) → Some a ≡ Some b → a ≡ b
-        some_is a b e = cc
 
     -- their labels differ
     differ : (e : ℕ × NodeRow) (es : Nodes) → Holds e.0 → AllByRecursion (λ k. nat_cmp e.0 k ≡ Less) (keys_of es) → AllByRecursion (λ row. 0 < row_names m row.1 → Holds row.0) es
@@ -157,7 +155,7 @@ module _ (g : Nodes) (roots : List ℕ) (st : IsStore g roots) where
         by_place false t l rest = by_test (names_it m e) (rest l)
 
     -- it is no root
-    pub no_root : (r : ℕ) → Stands g roots r (q ++ x ∷ []) m → root_links g m ≡ 0
+    pub no_root : (r : ℕ) → IsUnderRoot g roots r (q ++ x ∷ []) m → root_links g m ≡ 0
     no_root r s = ⊎_elim (λ l. absurd (clash (st.one_path m r m [] (q ++ x ∷ []) (member_counted roots m (omega (arith, l, st.rooted m)), here g roots st m (there_at g roots st r m (q ++ x ∷ []) s)) s))) (λ l. omega (arith, l)) (cases_lt 0 (root_links g m))
       where
         clash : [] ≡ q ++ x ∷ [] → ⊥
@@ -168,7 +166,7 @@ module _ (g : Nodes) (roots : List ℕ) (st : IsStore g roots) where
 
   -- ---- a root
 
-  pub root_not_named : (m : ℕ) → Stands g roots m [] m → named g m ≡ 0
+  pub root_not_named : (m : ℕ) → IsUnderRoot g roots m [] m → named g m ≡ 0
   root_not_named m own = ⊎_elim (λ l.
       let f = namer g m st.graph.in_order l in
       let child = named_child g roots st f.0 m f.1 in
@@ -191,5 +189,5 @@ module _ (g : Nodes) (roots : List ℕ) (st : IsStore g roots) where
   some_same a b e = cc
 
   -- what stands at the root's path is the root
-  pub at_root_path : (r m : ℕ) → Stands g roots r [] m → r ≡ m
+  pub at_root_path : (r m : ℕ) → IsUnderRoot g roots r [] m → r ≡ m
   at_root_path r m s = some_same r m (sym (here g roots st r (root_there g roots st r s.0)) ∙ s.1)

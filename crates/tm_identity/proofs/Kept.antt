@@ -10,12 +10,12 @@ use Rattle.tm_base.specs.Paths.{Names}
 use Rattle.tm_tree.specs.declared.node.Child.{Child}
 use Rattle.tm_tree.specs.declared.node.NodeRow.{NodeRow}
 use Rattle.tm_graph.specs.Nodes.{Nodes, node, entries_of, names, times, root_links, IsGraph, with_links}
-use Rattle.tm_graph.specs.Losing.{lost, IsGone, left, less, is_spent}
+use Rattle.tm_graph.specs.Losing.{lost, IsGone, after_loss, less, is_spent}
 use Rattle.tm_graph.proofs.Left.{node-left, left_is_graph}
 use Rattle.tm_graph.proofs.Climbs.{there, root_links-left, linked-left}
 use Rattle.tm_graph.specs.Trees.{child_of, and_then, value_at, number_at, number, under, rows_with, rows_to}
 use Rattle.tm_graph.proofs.WaysFound.{child_there, named_there}
-use Rattle.tm_identity.specs.Stores.{IsStore, Stands, label_of}
+use Rattle.tm_identity.specs.Stores.{IsStore, IsUnderRoot, label_of}
 use Rattle.tm_identity.specs.Removals.{TreesStay}
 
 -- h has of each of its nodes what g has, but for links
@@ -71,7 +71,7 @@ module _ {X : Type 0} (v w : ℕ → NodeRow → X) (h g : Nodes) (is : IsGraph 
 
 -- ---- removal
 
-part_left : (g : Nodes) (root : ℕ) (gone : List ℕ) → IsGraph g → IsGone g root gone → IsPart (left g root gone) g
+part_left : (g : Nodes) (root : ℕ) (gone : List ℕ) → IsGraph g → IsGone g root gone → IsPart (after_loss g root gone) g
 part_left g root gone is goes n row e = by_node (node g n) (sym (node-left g root gone n is goes) ∙ e)
   where
     by_node : (o : Option NodeRow) → less (lost g root gone n) o ≡ Some row → (links : ℕ) × (o ≡ Some (with_links row links))
@@ -116,7 +116,7 @@ root_there g roots st s m = there g s (omega (arith, st.rooted s, counted_member
 module _ (g : Nodes) (roots others : List ℕ) (root : ℕ) (gone : List ℕ) (st : IsStore g roots) (goes : IsGone g root gone)
     (fewer : (q : ℕ) → count_by (λ r. r == q) roots ≡ count_by (λ r. r == q) others + (if q == root then 1 else 0)) where
   abbrev new : Nodes
-  new = left g root gone
+  new = after_loss g root gone
 
   has_root : 0 < root_links g root
   has_root = let one : ◌≡◌ {A = ℕ} (if root == root then 1 else 0) 1 = grind (arith, nat_tests) in omega (arith, st.rooted root, fewer root, one)
@@ -139,7 +139,7 @@ module _ (g : Nodes) (roots others : List ℕ) (root : ℕ) (gone : List ℕ) (s
   pub same_number : (n : ℕ) (p : Names) → is_some (node new n) ≡ true → number_at new n p ≡ number_at g n p
   same_number n p t = same_value number number new g is_graph part (λ n row other e f. refl) p n t
 
-  stood : (r n : ℕ) (p : Names) → Stands new others r p n → Stands g roots r p n
+  stood : (r n : ℕ) (p : Names) → IsUnderRoot new others r p n → IsUnderRoot g roots r p n
   stood r n p h = (was_root r h.0, sym (same_number r p (stays r h.0)) ∙ h.1)
 
   same_label : (m : ℕ) → is_some (node new m) ≡ true → label_of new m ≡ label_of g m

@@ -15,7 +15,7 @@ use Rattle.tm_graph.specs.Trees.{child_of, rows_of, rows_to, rows_with, under}
 use Rattle.tm_graph.proofs.PlaceAt.{of_children}
 use Rattle.tm_graph.proofs.Taken.{sum-without_all, weight}
 use Rattle.tm_identity.specs.Sums.{is_elsewhere, sum_beside, sum_once, sum_over, stored_bytes, identity_count, item_length}
-use Rattle.tm_identity.specs.Stores.{IsStore, Stands, Labels, label_of, trees_of}
+use Rattle.tm_identity.specs.Stores.{IsStore, IsUnderRoot, Labels, label_of, trees_of}
 use Rattle.tm_identity.specs.Stored.{Weighs, WeighsAt, Lengths, node_length}
 use Rattle.tm_identity.proofs.Parents.{child_stands}
 use Rattle.tm_identity.proofs.Counted.{bool_same, holds_it, held}
@@ -33,16 +33,16 @@ sum-fresh w b (x ∷ xs) = by_test (b x) (sum-fresh w b xs) ∙ sym (sum_by-cons
 module _ (v : ℕ → NodeRow → Labelled) (w : LabelledTree → Names → Labelled → ℕ) (k : NodeRow → ℕ) (g : Nodes) (roots : List ℕ) (labels_read : Labels v g) (st : IsStore g roots) (weighs : WeighsAt v g roots w k) where
   module _ (ss : List ℕ) (sub : (s : ℕ) → is_member nat_eq ss s ≡ true → is_member nat_eq roots s ≡ true) where
     -- a node stands in one of these trees exactly where its number is among theirs
-    elsewhere_is : (r n : ℕ) (p : Names) → Stands g roots r p n → is_elsewhere (trees_of v g ss) (label_of g n) p ≡ is_member nat_eq (all_nums g ss) n
+    elsewhere_is : (r n : ℕ) (p : Names) → IsUnderRoot g roots r p n → is_elsewhere (trees_of v g ss) (label_of g n) p ≡ is_member nat_eq (all_nums g ss) n
     elsewhere_is r n p s = bool_same _ _
         (λ h. let t = any_tree v g (label_of g n) p ss h in
         let at = holds_it v g roots labels_read st t.0 n r p (sub t.0 t.1) s t.2 in
         root_num g roots st n ss t.0 t.1 (stands_num g roots st p (suc t.0) t.0 n (omega arith) at.1))
         (λ h. let t = num_root g roots st n ss h in
         let q = num_stands g roots st (suc t.0) t.0 n t.2 in
-        let at : Stands g roots t.0 q.0 n = (sub t.0 t.1, q.1) in
+        let at : IsUnderRoot g roots t.0 q.0 n = (sub t.0 t.1, q.1) in
         let path = st.one_path t.0 r n q.0 p at s in
-        tree_any v g (label_of g n) p ss t.0 t.1 (held v g roots labels_read st t.0 n p (subst (λ (w : Names). Stands g roots t.0 w n) path at)))
+        tree_any v g (label_of g n) p ss t.0 t.1 (held v g roots labels_read st t.0 n p (subst (λ (w : Names). IsUnderRoot g roots t.0 w n) path at)))
 
     -- what a node counts
     abbrev counts : ℕ → ℕ
@@ -70,7 +70,7 @@ module _ (v : ℕ → NodeRow → Labelled) (w : LabelledTree → Names → Labe
             sum_by-append counts (lists c.node) (flat_map (λ (c : Child). lists c.node) es),
           )
 
-      total_is : (depth n : ℕ) (p : Names) → Stands g roots r p n → all_of (rows_to v depth g n) p ≡ sum_by counts (nums depth g n)
+      total_is : (depth n : ℕ) (p : Names) → IsUnderRoot g roots r p n → all_of (rows_to v depth g n) p ≡ sum_by counts (nums depth g n)
       total_is zero n p s = refl
       total_is (suc depth) n p s = by_node (node g n) refl (λ c x child. total_is depth c (p ++ x ∷ []) (child_stands g roots st r n c p x s child))
         where

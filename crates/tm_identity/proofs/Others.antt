@@ -16,7 +16,7 @@ use Rattle.tm_tree.specs.Copies.{LabelledTree}
 use Rattle.tm_graph.specs.Nodes.{Nodes, node, entries_of, IsGraph}
 use Rattle.tm_graph.specs.Trees.{child_of, rows_of, under}
 use Rattle.tm_graph.specs.Walks.{child_named}
-use Rattle.tm_graph.proofs.Named.{RiseEach, rise_each}
+use Rattle.tm_graph.proofs.ChildLemmas.{RiseEach, rise_each}
 use Rattle.tm_graph.proofs.PlaceAt.{of_children}
 use Rattle.tm_identity.specs.Identities.{holds}
 use Rattle.tm_identity.specs.Sums.{is_elsewhere}

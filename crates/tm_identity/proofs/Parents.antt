@@ -18,9 +18,9 @@ use Rattle.tm_graph.specs.Walks.{child_named}
 use Rattle.tm_graph.specs.Reached.{Reached, at_root, beneath}
 use Rattle.tm_graph.proofs.Climbs.{there, all_reached}
 use Rattle.tm_graph.specs.Trees.{child_of, and_then, number_at, number}
-use Rattle.tm_graph.proofs.Named.{RiseEach, rise_each}
+use Rattle.tm_graph.proofs.ChildLemmas.{RiseEach, rise_each}
 use Rattle.tm_graph.proofs.WaysFound.{child_there, times_named}
-use Rattle.tm_identity.specs.Stores.{IsStore, Stands}
+use Rattle.tm_identity.specs.Stores.{IsStore, IsUnderRoot}
 use Rattle.tm_graph.proofs.PlaceAt.{name_is}
 use Rattle.tm_identity.proofs.Kept.{member_counted, stands_there, root_there}
 
@@ -118,7 +118,7 @@ last_same (z ∷ q) x y e = last_same q x y (tails e)
 -- ---- folders and what stands in them
 
 module _ (g : Nodes) (roots : List ℕ) (st : IsStore g roots) where
-  pub there_at : (r f : ℕ) (q : Names) → Stands g roots r q f → is_some (node g f) ≡ true
+  pub there_at : (r f : ℕ) (q : Names) → IsUnderRoot g roots r q f → is_some (node g f) ≡ true
   there_at r f q s = stands_there g r f q st.graph (root_there g roots st r s.0) s.1
 
   pub here : (m : ℕ) → is_some (node g m) ≡ true → number_at g m [] ≡ Some m
@@ -129,7 +129,7 @@ module _ (g : Nodes) (roots : List ℕ) (st : IsStore g roots) where
       by_node (Some row) t = refl
 
   -- a child stands in its folder
-  pub child_stands : (r f m : ℕ) (q : Names) (x : List ℕ) → Stands g roots r q f → child_of (node g f) x ≡ Some m → Stands g roots r (q ++ x ∷ []) m
+  pub child_stands : (r f m : ℕ) (q : Names) (x : List ℕ) → IsUnderRoot g roots r q f → child_of (node g f) x ≡ Some m → IsUnderRoot g roots r (q ++ x ∷ []) m
   child_stands r f m q x s e = (
     s.0,
     number_at-push g st.graph q r x (root_there g roots st r s.0) ∙ ap (λ o. and_then o (λ m. and_then (child_of (node g m) x) (λ k. number_at g k []))) s.1
@@ -137,17 +137,17 @@ module _ (g : Nodes) (roots : List ℕ) (st : IsStore g roots) where
   )
 
   -- what stands in a folder is its child
-  pub folder_stands : (r m : ℕ) (q : Names) (x : List ℕ) → Stands g roots r (q ++ x ∷ []) m → (f : ℕ) × Stands g roots r q f × (child_of (node g f) x ≡ Some m)
+  pub folder_stands : (r m : ℕ) (q : Names) (x : List ℕ) → IsUnderRoot g roots r (q ++ x ∷ []) m → (f : ℕ) × IsUnderRoot g roots r q f × (child_of (node g f) x ≡ Some m)
   folder_stands r m q x s = by_folder (number_at g r q) refl (sym (number_at-push g st.graph q r x (root_there g roots st r s.0)) ∙ s.1)
     where
-      by_child : (f : ℕ) (o : Option ℕ) → number_at g r q ≡ Some f → child_of (node g f) x ≡ o → and_then o (λ k. number_at g k []) ≡ Some m → (f : ℕ) × Stands g roots r q f × (child_of (node g f) x ≡ Some m)
+      by_child : (f : ℕ) (o : Option ℕ) → number_at g r q ≡ Some f → child_of (node g f) x ≡ o → and_then o (λ k. number_at g k []) ≡ Some m → (f : ℕ) × IsUnderRoot g roots r q f × (child_of (node g f) x ≡ Some m)
       by_child f None e c h = cc
       by_child f (Some k) e c h = (f, (s.0, e), c ∙ ap Some (same (here k (child_there g f k x st.graph c)) h))
         where
           same : number_at g k [] ≡ Some k → number_at g k [] ≡ Some m → k ≡ m
           same a b = cc
 
-      by_folder : (o : Option ℕ) → number_at g r q ≡ o → and_then o (λ m. and_then (child_of (node g m) x) (λ k. number_at g k [])) ≡ Some m → (f : ℕ) × Stands g roots r q f × (child_of (node g f) x ≡ Some m)
+      by_folder : (o : Option ℕ) → number_at g r q ≡ o → and_then o (λ m. and_then (child_of (node g m) x) (λ k. number_at g k [])) ≡ Some m → (f : ℕ) × IsUnderRoot g roots r q f × (child_of (node g f) x ≡ Some m)
       by_folder None e h = cc
       by_folder (Some f) e h = by_child f (child_of (node g f) x) e refl h
 
@@ -167,14 +167,14 @@ module _ (g : Nodes) (roots : List ℕ) (st : IsStore g roots) where
       by_node (Some row) e = times_named (entries_of row) x m e
 
   -- each node that is reached stands somewhere
-  stands_reached : (n : ℕ) → Reached g n → (r : ℕ) × (p : Names) × Stands g roots r p n
+  stands_reached : (n : ℕ) → Reached g n → (r : ℕ) × (p : Names) × IsUnderRoot g roots r p n
   stands_reached n (at_root q h) = (q, [], (member_counted roots q (omega (arith, h, st.rooted q)), here q (there g q (omega (arith, h)))))
   stands_reached n (beneath f q reached h) =
       let up = stands_reached f reached in
       let child = named_child f q h in
       (up.0, up.1 ++ child.0 ∷ [], child_stands up.0 f q up.1 child.0 up.2 child.1)
 
-  pub stands_somewhere : (n : ℕ) → is_some (node g n) ≡ true → (r : ℕ) × (p : Names) × Stands g roots r p n
+  pub stands_somewhere : (n : ℕ) → is_some (node g n) ≡ true → (r : ℕ) × (p : Names) × IsUnderRoot g roots r p n
   stands_somewhere n t = stands_reached n (all_reached g st.graph st.linked n t)
 
   -- no folder names a node twice

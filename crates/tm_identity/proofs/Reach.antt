@@ -18,8 +18,8 @@ use Rattle.tm_graph.specs.Nodes.{Nodes, node, entries_of, names}
 use Rattle.tm_graph.specs.Losing.{without_all}
 use Rattle.tm_graph.specs.Trees.{child_of, and_then, number_at, number}
 use Rattle.tm_graph.proofs.Left.{at-without_all}
-use Rattle.tm_graph.proofs.Named.{RiseEach, rise_each}
-use Rattle.tm_identity.specs.Stores.{IsStore, Stands}
+use Rattle.tm_graph.proofs.ChildLemmas.{RiseEach, rise_each}
+use Rattle.tm_identity.specs.Stores.{IsStore, IsUnderRoot}
 use Rattle.tm_identity.proofs.Kept.{root_there}
 use Rattle.tm_identity.proofs.Parents.{here, there_at, child_stands, stands_somewhere, child_named_by}
 use Rattle.tm_identity.proofs.Others.{each, children}
@@ -141,14 +141,14 @@ module _ (g : Nodes) (roots : List ℕ) (st : IsStore g roots) where
       by_child None c e f = cc
       by_child (Some k) c e f = by_node k (node g n) refl (child_named_by g roots st n k x c) (f k (below k c) e)
 
-  stands_at : (r n m : ℕ) (p q : Names) → Stands g roots r p n → number_at g n q ≡ Some m → Stands g roots r (p ++ q) m
-  stands_at r n m p [] s e = subst (λ (w : Names). Stands g roots r w m) (sym (append-nil p)) (subst (λ k. Stands g roots r p k) (same (here g roots st n (there_at g roots st r n p s)) e) s)
+  stands_at : (r n m : ℕ) (p q : Names) → IsUnderRoot g roots r p n → number_at g n q ≡ Some m → IsUnderRoot g roots r (p ++ q) m
+  stands_at r n m p [] s e = subst (λ (w : Names). IsUnderRoot g roots r w m) (sym (append-nil p)) (subst (λ k. IsUnderRoot g roots r p k) (same (here g roots st n (there_at g roots st r n p s)) e) s)
     where
       same : number_at g n [] ≡ Some n → number_at g n [] ≡ Some m → n ≡ m
       same a b = cc
-  stands_at r n m p (x ∷ q) s e = by_child (child_of (node g n) x) refl e (λ c child k. subst (λ (w : Names). Stands g roots r w m) (append_assoc p (x ∷ []) q) (stands_at r c m (p ++ x ∷ []) q (child_stands g roots st r n c p x s child) k))
+  stands_at r n m p (x ∷ q) s e = by_child (child_of (node g n) x) refl e (λ c child k. subst (λ (w : Names). IsUnderRoot g roots r w m) (append_assoc p (x ∷ []) q) (stands_at r c m (p ++ x ∷ []) q (child_stands g roots st r n c p x s child) k))
     where
-      by_child : (o : Option ℕ) → child_of (node g n) x ≡ o → and_then o (λ c. number_at g c q) ≡ Some m → ((c : ℕ) → child_of (node g n) x ≡ Some c → number_at g c q ≡ Some m → Stands g roots r (p ++ x ∷ q) m) → Stands g roots r (p ++ x ∷ q) m
+      by_child : (o : Option ℕ) → child_of (node g n) x ≡ o → and_then o (λ c. number_at g c q) ≡ Some m → ((c : ℕ) → child_of (node g n) x ≡ Some c → number_at g c q ≡ Some m → IsUnderRoot g roots r (p ++ x ∷ q) m) → IsUnderRoot g roots r (p ++ x ∷ q) m
       by_child None c e f = cc
       by_child (Some k) c e f = f k c e
 
@@ -190,7 +190,7 @@ module _ (g : Nodes) (roots : List ℕ) (st : IsStore g roots) where
   member_kids depth m [] h Q all = cc
   member_kids depth m (c ∷ es) h Q all = ⊎_elim (λ k. (c, all.0, k)) (λ k. member_kids depth m es k Q all.1) (in_one (nums depth g c.node) (flat_map (λ (c : Child). nums depth g c.node) es) m h)
 
-  distinct_kids : (r n depth : ℕ) (p : Names) → Stands g roots r p n → (es : List Child) → RiseEach es → AllByRecursion (λ c. child_of (node g n) c.name ≡ Some c.node) es → AllByRecursion (λ c. IsDistinct nat_eq (nums depth g c.node)) es
+  distinct_kids : (r n depth : ℕ) (p : Names) → IsUnderRoot g roots r p n → (es : List Child) → RiseEach es → AllByRecursion (λ c. child_of (node g n) c.name ≡ Some c.node) es → AllByRecursion (λ c. IsDistinct nat_eq (nums depth g c.node)) es
       → IsDistinct nat_eq (flat_map (λ (c : Child). nums depth g c.node) es)
   unfolding IsDistinct
   distinct_kids r n depth p s [] rise child d = tt
@@ -207,7 +207,7 @@ module _ (g : Nodes) (roots : List ℕ) (st : IsStore g roots) where
       two [] a b = tt
       two (o ∷ es) a b = ((a.0, b.0), two es a.1 b.1)
 
-  pub distinct_nums : (depth r n : ℕ) (p : Names) → n < depth → Stands g roots r p n → IsDistinct nat_eq (nums depth g n)
+  pub distinct_nums : (depth r n : ℕ) (p : Names) → n < depth → IsUnderRoot g roots r p n → IsDistinct nat_eq (nums depth g n)
   unfolding IsDistinct
   distinct_nums zero r n p l s = tt
   distinct_nums (suc depth) r n p l s = by_node (node g n) refl (λ c x low child. distinct_nums depth r c (p ++ x ∷ []) low (child_stands g roots st r n c p x s child))
@@ -265,7 +265,7 @@ module _ (g : Nodes) (roots : List ℕ) (st : IsStore g roots) where
       more : is_member nat_eq rs s ≡ true → is_member nat_eq (r ∷ rs) s ≡ true
       more m = grind (arith, m)
 
-  pub root_at : (r : ℕ) → is_member nat_eq roots r ≡ true → Stands g roots r [] r
+  pub root_at : (r : ℕ) → is_member nat_eq roots r ≡ true → IsUnderRoot g roots r [] r
   root_at r m = (m, here g roots st r (root_there g roots st r m))
 
   pub head_member : (r : ℕ) (rs : List ℕ) → is_member nat_eq (r ∷ rs) r ≡ true

@@ -18,9 +18,9 @@ use Rattle.tm_graph.specs.Walks.{child_named}
 use Rattle.tm_tree.specs.declared.item.Labelled.{Labelled}
 use Rattle.tm_tree.specs.Copies.{LabelledTree}
 use Rattle.tm_graph.specs.Trees.{child_of, rows_of, rows_to, rows_with, under}
-use Rattle.tm_graph.proofs.Named.{RiseEach, rise_each}
+use Rattle.tm_graph.proofs.ChildLemmas.{RiseEach, rise_each}
 use Rattle.tm_identity.specs.Sums.{is_elsewhere, item_length, unique_bytes}
-use Rattle.tm_identity.specs.Stores.{IsStore, Stands, Labels, label_of, trees_of}
+use Rattle.tm_identity.specs.Stores.{IsStore, IsUnderRoot, Labels, label_of, trees_of}
 use Rattle.tm_identity.specs.Stored.{node_length, Lengths}
 use Rattle.tm_identity.specs.Uniques.{only_with, only_to, only_from, only_at}
 use Rattle.tm_identity.proofs.Others.{each, same_sums, no_sum, children, any_tree, tree_any, part, total, total-children}
@@ -44,7 +44,7 @@ module _ (v : ℕ → NodeRow → Labelled) (g : Nodes) (before after : List ℕ
   Else p n = Elsewhere g before after r st p n
 
   abbrev At : Names → ℕ → Type 0
-  At p n = Stands g all r p n
+  At p n = IsUnderRoot g all r p n
 
   held_else : (p : Names) (n : ℕ) → At p n → is_elsewhere (trees_of v g rest) (label_of g n) p ≡ true → Else p n
   held_else p n at h =

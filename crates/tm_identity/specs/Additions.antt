@@ -9,8 +9,8 @@ use Rattle.tm_identity.specs.Stores.{IsStore, label_of}
 use Rattle.tm_identity.specs.Removals.{TreesStay}
 
 -- h has the nodes of g, but for links, and may have more
-abbrev pub Keeps : Nodes → Nodes → Type 0
-Keeps g h = (n : ℕ) (row : NodeRow) → node g n ≡ Some row → (links : ℕ) × (node h n ≡ Some (with_links row links))
+abbrev pub HasNodesOf : Nodes → Nodes → Type 0
+HasNodesOf g h = (n : ℕ) (row : NodeRow) → node g n ≡ Some row → (links : ℕ) × (node h n ≡ Some (with_links row links))
 
 -- node n, beneath the new root at p, is the base's node at p, or is new and has the label k
 abbrev pub IsCopied : Nodes → Nodes → ℕ → Option ℕ → Names → ℕ → Type 0
@@ -22,7 +22,7 @@ pub record IsAddition (g h : Nodes) (roots : List ℕ) (k : ℕ) (base : Option 
   pub graph : IsGraph h
   pub linked : IsLinked h
   pub rooted : (q : ℕ) → root_links h q ≡ count_by (λ r. r == q) (roots ++ root ∷ [])
-  pub keeps : Keeps g h
+  pub keeps : HasNodesOf g h
   pub old_labels : (n : ℕ) → is_some (node g n) ≡ true → label_of g n < k
   pub based : (b : ℕ) → base ≡ Some b → is_member nat_eq roots b ≡ true
   pub copied : (p : Names) (n : ℕ) → number_at h root p ≡ Some n → IsCopied g h k base p n

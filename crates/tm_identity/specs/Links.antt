@@ -5,8 +5,8 @@ use Rattle.tm_tree.specs.declared.item.Labelled.{Labelled}
 use Rattle.tm_tree.specs.declared.node.NodeRow.{NodeRow}
 use Rattle.tm_graph.specs.Nodes.{Nodes, links_of}
 use Rattle.tm_identity.specs.Identities.{links}
-use Rattle.tm_identity.specs.Stores.{IsStore, Stands, Labels, label_of, trees_of}
+use Rattle.tm_identity.specs.Stores.{IsStore, IsUnderRoot, Labels, label_of, trees_of}
 
 abbrev pub LinksAreCounted : Type 0
 LinksAreCounted = (v : ℕ → NodeRow → Labelled) (g : Nodes) (roots : List ℕ) → Labels v g → IsStore g roots
-    → (r n : ℕ) (p : Names) → Stands g roots r p n → links (trees_of v g roots) (label_of g n) p ≡ links_of g n
+    → (r n : ℕ) (p : Names) → IsUnderRoot g roots r p n → links (trees_of v g roots) (label_of g n) p ≡ links_of g n

@@ -4,7 +4,7 @@ use Rattle.std.specs.Set.{is_member}
 use Rattle.tm_tree.specs.declared.item.Labelled.{Labelled}
 use Rattle.tm_tree.specs.declared.node.NodeRow.{NodeRow}
 use Rattle.tm_graph.specs.Nodes.{Nodes, node}
-use Rattle.tm_graph.specs.Losing.{IsGone, left}
+use Rattle.tm_graph.specs.Losing.{IsGone, after_loss}
 use Rattle.tm_graph.specs.Trees.{rows_of}
 use Rattle.tm_identity.specs.Stores.{IsStore}
 
@@ -23,4 +23,4 @@ OneLess roots root others = (q : ℕ) → count_by (λ r. r == q) roots ≡ coun
 -- what is left of a store is one, and the other trees stay
 abbrev pub RemovalKeeps : Type 0
 RemovalKeeps = (g : Nodes) (roots others : List ℕ) (root : ℕ) (gone : List ℕ) → IsStore g roots → IsGone g root gone → OneLess roots root others
-    → IsStore (left g root gone) others × TreesStay g (left g root gone) others
+    → IsStore (after_loss g root gone) others × TreesStay g (after_loss g root gone) others

@@ -12,7 +12,7 @@ use Rattle.tm_tree.specs.Copies.{LabelledTree}
 use Rattle.tm_graph.specs.Nodes.{Nodes, node}
 use Rattle.tm_graph.specs.Trees.{rows_of}
 use Rattle.tm_identity.specs.Sums.{item_length, stored_bytes, identity_count, sum_over}
-use Rattle.tm_identity.specs.Stores.{IsStore, Stands, Labels, trees_of}
+use Rattle.tm_identity.specs.Stores.{IsStore, IsUnderRoot, Labels, trees_of}
 
 abbrev pub leaf_length : LeafRow → ℕ
 leaf_length (File attrs stamp length) = length
@@ -41,7 +41,7 @@ StoredIsCounted = (v : ℕ → NodeRow → Labelled) (g : Nodes) (roots : List �
 
 -- w weighs what stands at a path of a tree as k weighs the node there
 abbrev pub WeighsAt : (ℕ → NodeRow → Labelled) → Nodes → List ℕ → (LabelledTree → Names → Labelled → ℕ) → (NodeRow → ℕ) → Type 0
-WeighsAt v g roots w k = (r n : ℕ) (p : Names) (row : NodeRow) → Stands g roots r p n → node g n ≡ Some row → w (rows_of v g r) p (v n row) ≡ k row
+WeighsAt v g roots w k = (r n : ℕ) (p : Names) (row : NodeRow) → IsUnderRoot g roots r p n → node g n ≡ Some row → w (rows_of v g r) p (v n row) ≡ k row
 
 -- a sum over identities is the sum over the nodes
 abbrev pub SumsAreCounted : Type 0

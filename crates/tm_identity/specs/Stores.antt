@@ -14,8 +14,8 @@ abbrev pub label_of : Nodes → ℕ → ℕ
 label_of g n = unwrap_or (option_map (λ row. row.label) (node g n)) 0
 
 -- node n stands at p beneath r, which is one of the roots
-abbrev pub Stands : Nodes → List ℕ → ℕ → Names → ℕ → Type 0
-Stands g roots r p n = (is_member nat_eq roots r ≡ true) × (number_at g r p ≡ Some n)
+abbrev pub IsUnderRoot : Nodes → List ℕ → ℕ → Names → ℕ → Type 0
+IsUnderRoot g roots r p n = (is_member nat_eq roots r ≡ true) × (number_at g r p ≡ Some n)
 
 -- a node has a root link for each time that it is listed as a root; each node stands at one path, and no two of one label
 -- at the same, so that each identity has one node
@@ -23,8 +23,8 @@ pub record IsStore (g : Nodes) (roots : List ℕ) : Type 0 where
   pub graph : IsGraph g
   pub linked : IsLinked g
   pub rooted : (q : ℕ) → root_links g q ≡ count_by (λ r. r == q) roots
-  pub one_path : (r s n : ℕ) (p q : Names) → Stands g roots r p n → Stands g roots s q n → p ≡ q
-  pub one_node : (r s m n : ℕ) (p : Names) → Stands g roots r p m → Stands g roots s p n → label_of g m ≡ label_of g n → m ≡ n
+  pub one_path : (r s n : ℕ) (p q : Names) → IsUnderRoot g roots r p n → IsUnderRoot g roots s q n → p ≡ q
+  pub one_node : (r s m n : ℕ) (p : Names) → IsUnderRoot g roots r p m → IsUnderRoot g roots s p n → label_of g m ≡ label_of g n → m ≡ n
 
 -- v reads nodes as items with their labels
 abbrev pub Labels : (ℕ → NodeRow → Labelled) → Nodes → Type 0
@@ -36,9 +36,9 @@ trees_of v g roots = map (λ r. rows_of v g r) roots
 
 -- each node stands somewhere
 abbrev pub NodesStand : Type 0
-NodesStand = (g : Nodes) (roots : List ℕ) → IsStore g roots → (n : ℕ) → is_some (node g n) ≡ true → (r : ℕ) × (p : Names) × Stands g roots r p n
+NodesStand = (g : Nodes) (roots : List ℕ) → IsStore g roots → (n : ℕ) → is_some (node g n) ≡ true → (r : ℕ) × (p : Names) × IsUnderRoot g roots r p n
 
 -- a tree holds an identity exactly where a node of that label stands there
 abbrev pub IdentitiesAreNodes : Type 0
 IdentitiesAreNodes = (v : ℕ → NodeRow → Labelled) (g : Nodes) (roots : List ℕ) → Labels v g → IsStore g roots
-    → (r label : ℕ) (p : Names) → is_member nat_eq roots r ≡ true → (holds (rows_of v g r) label p ≡ true) ↔ ((n : ℕ) × Stands g roots r p n × (label_of g n ≡ label))
+    → (r label : ℕ) (p : Names) → is_member nat_eq roots r ≡ true → (holds (rows_of v g r) label p ≡ true) ↔ ((n : ℕ) × IsUnderRoot g roots r p n × (label_of g n ≡ label))

@@ -31,6 +31,7 @@ use Rattle.tm_image.specs.Claim.{IsRefused}
 use Rattle.tm_image.specs.Load.{IsClaimedAgain, claims}
 use Rattle.tm_image.proofs.Owning.{kept_low, kept_high}
 use Rattle.tm_image.proofs.Claiming.{flat, times-flat}
+use Rattle.tm_base.specs.Limits.{max_blocks}
 
 module _ (total : ℕ) where
   rise : (before : Option ℕ) (es : Records) → AreRecords total before es → IsStrictlyIncreasing (keys_of es)
@@ -83,7 +84,7 @@ module _ (total : ℕ) where
       (cases_lt b total))
       (cases_lt b 3)
 
-  module _ (side : Side) (root : Root) (named : ℕ) (table : List ℕ) (es : Records) (few : total ≤ 262144) (is_root : IsRoot side total root) (row : IsBlockList root.first total table) (many : length table ≡ blocks_for root.table_len) (are : AreRecords total None es) where
+  module _ (side : Side) (root : Root) (named : ℕ) (table : List ℕ) (es : Records) (few : total ≤ max_blocks) (is_root : IsRoot side total root) (row : IsBlockList root.first total table) (many : length table ≡ blocks_for root.table_len) (are : AreRecords total None es) where
     pub sound_loaded : (used : List ℕ) → 1 ≤ named → named ≤ 2 → length used ≡ total → AreMarks used → ((b : ℕ) → get_or used b 0 ≡ kept b + times b table + in_data b es) → IsSound (record { side = side; records = es; used = used; layout = table; root = root; named = named })
     sound_loaded used low high size marks owned = record {
       marks = marks;

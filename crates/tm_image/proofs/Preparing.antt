@@ -24,6 +24,7 @@ use Rattle.tm_image.specs.Seen.{Seen, IsSound, IsKept, IsSettled, content_of, st
 use Rattle.tm_image.specs.Room.{need_of, table_len, brought_len}
 use Rattle.tm_image.specs.Commit.{IsFor, IsCovered, released, released_len}
 use Rattle.tm_image.proofs.Owning.{bounded, weigh-ones, log-ones, puts-ones}
+use Rattle.tm_base.specs.Limits.{max_blocks}
 
 -- what is brought and what is let go are the difference
 abbrev pub Balance : Records → Records → List Undo → List Put → Type 0
@@ -55,7 +56,7 @@ module _ (m : Seen) (sound : IsSound m) (es : Records) (log : List Undo) (puts :
   pub held : (b : ℕ) → kept b + times b m.layout + in_data b es + released b log ≤ get_or m.used b 0
   held b = omega (arith, sound.owners b, stage b, balance (λ x. hit x b))
 
-  pub few : length m.layout + released_len log + data_len es ≤ 262144
+  pub few : length m.layout + released_len log + data_len es ≤ max_blocks
   few = omega (arith, bounded m.used m.layout [] es log (λ b. omega (arith, held b)), marks_sum m.used sound.marks, sound.small)
 
   module _ (text blocks used : List ℕ) (taken : (b : ℕ) → get_or used b 0 ≡ get_or m.used b 0 + times b blocks) where

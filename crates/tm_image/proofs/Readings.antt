@@ -27,12 +27,13 @@ use Rattle.tm_table.specs.Text.{table_text}
 use Rattle.tm_table.specs.Breaks.{BreaksAt as TableBreaksAt}
 use Rattle.tm_table.proofs.OneText.{table_is_one, table_or_break, break_is_one}
 use Rattle.tm_image.specs.Content.{Content}
-use Rattle.tm_image.specs.Reads.{Entries, Reads, data_len, entries_of}
+use Rattle.tm_image.specs.Reads.{Entries, ReadsAsTable, data_len, entries_of}
 use Rattle.tm_image.specs.Blank.{LacksMagic}
 use Rattle.tm_image.specs.Load.{HasRoot, HasRecords, IsClaimedAgain, claims, Fails}
 use Rattle.tm_image.specs.Laws.{OneFailure, OneReading, FailsOrLacks, ReadsOrFails, ReadsOrLacks}
 use Rattle.tm_image.proofs.Owning.{kept_low}
 use Rattle.tm_image.proofs.Claiming.{flat, times-flat}
+use Rattle.tm_base.specs.Limits.{max_blocks}
 
 -- what a slot says of its root, but for the sequence
 pub record IsSameRoot (r s : Root) : Type 0 where
@@ -56,7 +57,7 @@ tag_long : (side : Side) (tag : List ℕ) → IsTag side tag → length tag ≡ 
 tag_long Volume tag is = ap length is.is ∙ long_tag is.clean is.generation is.next
 tag_long Store tag is = ap length is.is ∙ long_tag is.running is.date is.number
 
-same_root : (side : Side) (blocks : ℕ) (r s : Root) → blocks ≤ 262144 → IsRoot side blocks r → IsRoot side blocks s → slot_of r ≡ slot_of s → IsSameRoot r s
+same_root : (side : Side) (blocks : ℕ) (r s : Root) → blocks ≤ max_blocks → IsRoot side blocks r → IsRoot side blocks s → slot_of r ≡ slot_of s → IsSameRoot r s
 same_root side blocks r s few is_r is_s same = record {
   first = (apart-u32 r.first s.first (drop 16 (slot_of r)) (drop 16 (slot_of s)) (omega (arith, is_r.first_most)) (omega (arith, is_s.first_most)) (sym (slot_12 r) ∙ ap (drop 12) same ∙ slot_12 s)).0;
   table_len = (apart-u64 r.table_len s.table_len (drop 32 (slot_of r)) (drop 32 (slot_of s)) (omega (arith, is_r.length_most)) (omega (arith, is_s.length_most)) (sym (slot_24 r) ∙ ap (drop 24) same ∙ slot_24 s)).0;
@@ -87,7 +88,7 @@ again_one xs a b f g = ⊎_elim
     (cases_lt g.place f.place))
     (cases_lt f.place g.place)
 
-module _ (side : Side) (blocks : ℕ) (bytes : ℕ → List ℕ) (few : blocks ≤ 262144) where
+module _ (side : Side) (blocks : ℕ) (bytes : ℕ → List ℕ) (few : blocks ≤ max_blocks) where
   pub one_root : (r s : Root) → HasRoot side blocks bytes r → HasRoot side blocks bytes s → IsSameRoot r s
   one_root r s has_r has_s = same_root side blocks r s few has_r.good has_s.good (sym has_r.slot ∙ has_s.slot)
 
@@ -210,7 +211,7 @@ fails_or_lacks side blocks bytes RecordCause place f lacks = absurd f
 fails_or_lacks side blocks bytes Spent place f lacks = absurd f
 
 -- what an image that stands for something has
-module _ (side : Side) (entries : Entries) (tag : List ℕ) (image : Image) (reads : Reads side entries tag image) where
+module _ (side : Side) (entries : Entries) (tag : List ℕ) (image : Image) (reads : ReadsAsTable side entries tag image) where
   abbrev c : Content
   c = reads.content
 
@@ -237,7 +238,7 @@ module _ (side : Side) (entries : Entries) (tag : List ℕ) (image : Image) (rea
   its_claims : IsDistinct (claims c.layout c.records)
   its_claims b = omega (arith, reads.good.once b, times-append b c.layout (flat c.records), times-flat b c.records)
 
-  module _ (few : c.blocks ≤ 262144) where
+  module _ (few : c.blocks ≤ max_blocks) where
     its_failure : (cause : Cause) (place : ℕ) → Fails side c.blocks image.bytes cause place → ⊥
     its_failure Slot place f = slot_or_root side c.blocks image.bytes few place c.root f its_root
     its_failure Chain place f = break_or_chain side c.blocks image.bytes few f.0 c.root place c.layout (table_text c.records) f.1 f.2 its_root lies
@@ -258,7 +259,7 @@ reads_or_lacks side entries tag image reads lacks = root_or_lacks side reads.con
 pub one_reading : OneReading
 one_reading side entries entries2 tag tag2 image few f g =
     let size : g.content.blocks ≡ f.content.blocks = sym g.holds.count ∙ f.holds.count in
-    let few_f : f.content.blocks ≤ 262144 = omega (arith, few, f.holds.count) in
+    let few_f : f.content.blocks ≤ max_blocks = omega (arith, few, f.holds.count) in
     let its : HasRecords side f.content.blocks image.bytes g.content.layout g.content.records = subst (λ n. HasRecords side n image.bytes g.content.layout g.content.records) size (its_records side entries2 tag2 image g) in
     let root_g : HasRoot side f.content.blocks image.bytes g.content.root = subst (λ n. HasRoot side n image.bytes g.content.root) size (its_root side entries2 tag2 image g) in
     let same = one_records side f.content.blocks image.bytes few_f f.content.layout g.content.layout f.content.records g.content.records (its_records side entries tag image f) its in

@@ -23,7 +23,7 @@ use Rattle.tm_records.specs.declared.log.Undo.{Undo}
 use Rattle.tm_records.specs.Records.{Records}
 use Rattle.tm_table.specs.Good.{IsAbove, AreRecords}
 use Rattle.tm_image.specs.Content.{Content, IsAtRest, in_data, Holds, LeavesSame, LeavesEither}
-use Rattle.tm_image.specs.Reads.{kept, data_len, entry_of, entries_of, IsGood, Reads, LeavesRead, LeavesOneOf}
+use Rattle.tm_image.specs.Reads.{kept, data_len, entry_of, entries_of, IsGood, ReadsAsTable, LeavesRead, LeavesOneOf}
 use Rattle.tm_image.specs.Seen.{Seen, IsSound, IsKept, IsSettled, Stands, content_of}
 use Rattle.tm_image.specs.Room.{HasRoom}
 use Rattle.tm_image.specs.Commit.{IsFor, next_content, next_root, released_len}
@@ -148,7 +148,7 @@ entries_same (e ∷ es) x y each same =
     λ i. (e.0, first i) ∷ rest i
 
 -- an image that holds a good content stands for its entries
-pub reads : (side : Side) (c : Content) (data_bytes : ℕ → List ℕ) (image : Image) → IsGood side c → All IsKept (values_of c.records) → Holds c data_bytes image → Reads side (entries_of data_bytes c.records) c.root.tag image
+pub reads : (side : Side) (c : Content) (data_bytes : ℕ → List ℕ) (image : Image) → IsGood side c → All IsKept (values_of c.records) → Holds c data_bytes image → ReadsAsTable side (entries_of data_bytes c.records) c.root.tag image
 reads side c data_bytes image good each holds = record {
   content = c;
   good = good;

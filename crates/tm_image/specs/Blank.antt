@@ -4,6 +4,7 @@ use Rattle.std.specs.List.{All}
 use Rattle.std.specs.List.Sorted.{IsStrictlySortedBy}
 use Rattle.std.specs.Ordering.{nat_cmp}
 use Rattle.std.specs.Map.{keys_of, values_of}
+use Rattle.tm_base.specs.Limits.{max_blocks}
 use Rattle.tm_world.specs.Disk.{Disk, Image, IsLeft}
 use Rattle.tm_world.specs.declared.world.Side.{Side}
 use Rattle.tm_gate.specs.Selector.{named_by, named_slot}
@@ -17,7 +18,7 @@ use Rattle.tm_records.specs.declared.record.Record.{Record}
 use Rattle.tm_records.specs.declared.record.Put.{Put}
 use Rattle.tm_records.specs.declared.record.Body.TheVariants.{Empty}
 use Rattle.tm_image.specs.Content.{Content, in_data, reached, Holds}
-use Rattle.tm_image.specs.Reads.{Entries, Reads, kept}
+use Rattle.tm_image.specs.Reads.{Entries, ReadsAsTable, kept}
 
 -- the named slot lacks the magic
 abbrev pub LacksMagic : (ℕ → List ℕ) → Type 0
@@ -43,7 +44,7 @@ pub record IsWithoutData (r : Record) : Type 0 where
 
 -- whatever a stop leaves is unformatted, or stands for these entries and this tag
 abbrev pub LeavesNoneOr : Side → Entries → List ℕ → Disk → Type 0
-LeavesNoneOr side entries tag disk = (image : Image) → IsLeft disk image → LacksMagic image.bytes ⊎ Reads side entries tag image
+LeavesNoneOr side entries tag disk = (image : Image) → IsLeft disk image → LacksMagic image.bytes ⊎ ReadsAsTable side entries tag image
 
 -- a content without data, for the blocks of this disk
 pub record IsFirst (c : Content) (disk : Disk) : Type 0 where
@@ -57,7 +58,7 @@ LeavesNoneOrHeld c data_bytes disk = (image : Image) → IsLeft disk image → L
 
 -- a new image of so many blocks in memory: its records without data, the blocks of its table, the used blocks, the text
 pub record IsDraft (total : ℕ) (es : Records) (table used text : List ℕ) : Type 0 where
-  pub small : total ≤ 262144
+  pub small : total ≤ max_blocks
   pub rising : IsStrictlySortedBy nat_cmp (keys_of es)
   pub keys : All (λ k. k < 2 ^ 64) (keys_of es)
   pub each : All IsWithoutData (values_of es)

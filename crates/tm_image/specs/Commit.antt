@@ -1,6 +1,7 @@
 -- A commit.
 use Rattle.std.specs.Prelude.{◌≡◌, ◌≤◌, ◌<◌, ◌+◌, ◌-◌, ◌/◌, ◌^◌, ℕ, List, length, slice_index, sum}
 use Rattle.std.specs.List.{sum_by}
+use Rattle.tm_world.specs.Disk.{Disk}
 use Rattle.tm_blockmap.specs.Counts.{times}
 use Rattle.tm_records.specs.declared.record.Put.{Put}
 use Rattle.tm_records.specs.declared.record.Body.{Body}
@@ -15,9 +16,9 @@ use Rattle.tm_gate.specs.declared.root.Root.{Root}
 use Rattle.tm_gate.specs.Root.{after_root}
 use Rattle.tm_image.specs.Layout.{places, first_of, blocks_for}
 use Rattle.tm_image.specs.Content.{Content, in_data, reached}
-use Rattle.tm_image.specs.Reads.{data_len}
+use Rattle.tm_image.specs.Reads.{data_len, entries_of, LeavesOneOf}
 use Rattle.tm_image.specs.Seen.{Seen, owned}
-use Rattle.tm_image.specs.Room.{brought_len}
+use Rattle.tm_image.specs.Room.{brought_len, need_of, table_len}
 
 -- the records with these puts, and without these keys
 abbrev pub changed : List ℕ → List Put → Records → Records
@@ -26,6 +27,15 @@ changed remove put records = without remove (with_puts put records)
 -- how many blocks of data such a commit releases
 abbrev pub released_by : List ℕ → List Put → Records → ℕ
 released_by remove put records = data_len records + brought_len put - data_len (changed remove put records)
+
+-- how many free blocks such a commit needs
+abbrev pub commit_need : List ℕ → List Put → Records → ℕ
+commit_need remove put records = need_of (table_len records) (table_len (changed remove put records)) (released_by remove put records)
+
+-- a stop during such a commit, on a disk with these bytes, leaves the records and the tag before it or those after it
+abbrev pub LeavesCommit : List ℕ → List Put → List ℕ → Seen → (ℕ → List ℕ) → Disk → Type 0
+LeavesCommit remove put tag old bytes =
+    LeavesOneOf old.side (entries_of bytes old.records) old.root.tag (entries_of bytes (changed remove put old.records)) tag
 
 -- how often a block stands in the blobs that puts bring
 abbrev pub brought_by : ℕ → List Put → ℕ

@@ -3,6 +3,7 @@ use Rattle.std.specs.Prelude.{◌≡◌, ◌<◌, ◌≤◌, ◌+◌, ◌*◌, �
 use Rattle.std.specs.List.Sorted.{IsStrictlySortedBy, IsStrictlyIncreasing}
 use Rattle.std.specs.Ordering.{nat_cmp}
 use Rattle.std.specs.Map.{keys_of}
+use Rattle.tm_base.specs.Limits.{max_blocks}
 use Rattle.tm_world.specs.Disk.{Disk, Image}
 use Rattle.tm_world.specs.declared.world.Side.{Side}
 use Rattle.tm_world.specs.declared.cause.Cause.{Cause}
@@ -11,7 +12,7 @@ use Rattle.tm_chain.specs.Blob.{bytes_in}
 use Rattle.tm_records.specs.declared.record.Put.{Put}
 use Rattle.tm_records.specs.Records.{Records, at}
 use Rattle.tm_image.specs.Layout.{places}
-use Rattle.tm_image.specs.Reads.{Entries, entry_of, entries_of, data_len, Reads, LeavesRead}
+use Rattle.tm_image.specs.Reads.{Entries, entry_of, entries_of, data_len, ReadsAsTable, LeavesRead}
 use Rattle.tm_image.specs.Seen.{Seen, IsSound, IsSettled, Stands}
 use Rattle.tm_image.specs.Room.{table_len, free_of, HasRoom, AreStaged}
 use Rattle.tm_image.specs.Commit.{changed}
@@ -26,21 +27,21 @@ StandingIsLeft = (m : Seen) (disk : Disk) → IsSound m → IsSettled m → HasR
 -- and from the disk itself
 abbrev pub StandingIsRead : Type 0
 StandingIsRead = (m : Seen) (disk : Disk) → IsSound m → IsSettled m → HasRoom m → Stands m disk
-    → Reads m.side (entries_of disk.bytes m.records) m.root.tag (record { count = disk.count; bytes = disk.bytes })
+    → ReadsAsTable m.side (entries_of disk.bytes m.records) m.root.tag (record { count = disk.count; bytes = disk.bytes })
 
 -- an image stands for one map and one tag at most
 abbrev pub OneReading : Type 0
-OneReading = (side : Side) (entries entries2 : Entries) (tag tag2 : List ℕ) (image : Image) → image.count ≤ 262144
-    → Reads side entries tag image → Reads side entries2 tag2 image → (entries2 ≡ entries) × (tag2 ≡ tag)
+OneReading = (side : Side) (entries entries2 : Entries) (tag tag2 : List ℕ) (image : Image) → image.count ≤ max_blocks
+    → ReadsAsTable side entries tag image → ReadsAsTable side entries2 tag2 image → (entries2 ≡ entries) × (tag2 ≡ tag)
 
 -- one that stands for something is formatted
 abbrev pub ReadsOrLacks : Type 0
-ReadsOrLacks = (side : Side) (entries : Entries) (tag : List ℕ) (image : Image) → Reads side entries tag image → LacksMagic image.bytes → ⊥
+ReadsOrLacks = (side : Side) (entries : Entries) (tag : List ℕ) (image : Image) → ReadsAsTable side entries tag image → LacksMagic image.bytes → ⊥
 
 -- and none of its checks fails
 abbrev pub ReadsOrFails : Type 0
-ReadsOrFails = (side : Side) (entries : Entries) (tag : List ℕ) (image : Image) (cause : Cause) (place : ℕ) → image.count ≤ 262144
-    → Reads side entries tag image → Fails side image.count image.bytes cause place → ⊥
+ReadsOrFails = (side : Side) (entries : Entries) (tag : List ℕ) (image : Image) (cause : Cause) (place : ℕ) → image.count ≤ max_blocks
+    → ReadsAsTable side entries tag image → Fails side image.count image.bytes cause place → ⊥
 
 -- checks are made of what is formatted
 abbrev pub FailsOrLacks : Type 0
@@ -48,7 +49,7 @@ FailsOrLacks = (side : Side) (blocks : ℕ) (bytes : ℕ → List ℕ) (cause : 
 
 -- one check fails, at one place
 abbrev pub OneFailure : Type 0
-OneFailure = (side : Side) (blocks : ℕ) (bytes : ℕ → List ℕ) (cause cause2 : Cause) (place place2 : ℕ) → blocks ≤ 262144
+OneFailure = (side : Side) (blocks : ℕ) (bytes : ℕ → List ℕ) (cause cause2 : Cause) (place place2 : ℕ) → blocks ≤ max_blocks
     → Fails side blocks bytes cause place → Fails side blocks bytes cause2 place2 → (cause2 ≡ cause) × (place2 ≡ place)
 
 -- the record at a key after changes, of which no two put at one key

@@ -54,7 +54,7 @@ pub record IsGood (side : Side) (c : Content) : Type 0 where
   pub room : 3 + data_len c.records + (length (places c.layout) + length (places c.layout)) ≤ c.blocks
 
 -- an image stands for these entries and this tag, wherever the table lies
-pub record Reads (side : Side) (entries : Entries) (tag : List ℕ) (image : Image) : Type 0 where
+pub record ReadsAsTable (side : Side) (entries : Entries) (tag : List ℕ) (image : Image) : Type 0 where
   pub content : Content
   pub good : IsGood side content
   pub holds : Holds content image.bytes image
@@ -63,8 +63,8 @@ pub record Reads (side : Side) (entries : Entries) (tag : List ℕ) (image : Ima
 
 -- whatever a stop leaves stands for these entries and this tag
 abbrev pub LeavesRead : Side → Entries → List ℕ → Disk → Type 0
-LeavesRead side entries tag disk = (image : Image) → IsLeft disk image → Reads side entries tag image
+LeavesRead side entries tag disk = (image : Image) → IsLeft disk image → ReadsAsTable side entries tag image
 
 -- whatever a stop leaves stands for the old entries and tag, or for the new
 abbrev pub LeavesOneOf : Side → Entries → List ℕ → Entries → List ℕ → Disk → Type 0
-LeavesOneOf side old old_tag new new_tag disk = (image : Image) → IsLeft disk image → Reads side old old_tag image ⊎ Reads side new new_tag image
+LeavesOneOf side old old_tag new new_tag disk = (image : Image) → IsLeft disk image → ReadsAsTable side old old_tag image ⊎ ReadsAsTable side new new_tag image

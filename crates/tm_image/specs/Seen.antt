@@ -4,6 +4,7 @@ use Rattle.std.specs.List.{All}
 use Rattle.std.specs.List.Sorted.{IsStrictlySortedBy}
 use Rattle.std.specs.Ordering.{nat_cmp}
 use Rattle.std.specs.Map.{keys_of, values_of}
+use Rattle.tm_base.specs.Limits.{max_blocks}
 use Rattle.tm_world.specs.Disk.{Disk}
 use Rattle.tm_world.specs.declared.world.Side.{Side}
 use Rattle.tm_gate.specs.declared.root.Root.{Root}
@@ -46,7 +47,7 @@ pub record IsKept (r : Record) : Type 0 where
 pub record IsSound (m : Seen) : Type 0 where
   pub marks : AreMarks m.used
   pub owners : (b : ℕ) → owned b m ≤ slice_index m.used b
-  pub small : length m.used ≤ 262144
+  pub small : length m.used ≤ max_blocks
   pub low : 1 ≤ m.named
   pub high : m.named ≤ 2
   pub rising : IsStrictlySortedBy nat_cmp (keys_of m.records)

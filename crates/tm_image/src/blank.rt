@@ -4,6 +4,7 @@ ghost use Rattle.std.specs.List.{All};
 ghost use Rattle.std.specs.Map.{keys_of, values_of};
 ghost use Rattle.std.specs.Ordering.{nat_cmp};
 ghost use Rattle.std.specs.BTreeMap.{IsOrdered};
+ghost use Rattle.tm_base.specs.Limits.{max_blocks};
 ghost use Rattle.tm_world.specs.Outside.{disk, part_of};
 ghost use Rattle.tm_world.specs.Log.{now, Steps};
 ghost use Rattle.tm_world.specs.Runs.{Runs};
@@ -58,7 +59,7 @@ fn first_records(alloc: Global, put: Vec<Put>) -> Result<BTreeMap<u64, Record>, 
 fn make_draft(alloc: Global, blocks: u32, put: Vec<Put>) -> Result<Draft, ImageError>
     requires put { All IsFirstPut put.items }
     requires some { put.items ≢ [] }
-    requires small { blocks ≤ 262144 }
+    requires small { blocks ≤ max_blocks }
     ensures records { IfOk result (λ d. d.records.entries ≡ with_puts put.items []) }
     ensures is { IfOk result (λ d. IsDraft blocks d.records.entries d.table.items d.map d.text.items) }
     ensures lowest { IfOk result (λ d. Takes d.table.items (replicate 3 1 ++ replicate (blocks - 3) 0) d.map) }
@@ -114,7 +115,7 @@ impl Image {
         tag: [u8; 64],
     ) -> Result<Image, ImageError>
         requires count { W.blocks world.old side ≡ blocks }
-        requires small { blocks ≤ 262144 }
+        requires small { blocks ≤ max_blocks }
         requires put { All IsFirstPut put.items }
         requires some { put.items ≢ [] }
         requires tag { IsTag side tag }

@@ -8,10 +8,10 @@ ghost use Rattle.tm_world.specs.Runs.{Runs};
 ghost use Rattle.tm_world.specs.Faults.{NeverLess, Rose};
 ghost use Rattle.tm_gate.specs.Tag.{IsTag};
 ghost use Rattle.tm_blockmap.specs.Counts.{times};
-ghost use Rattle.tm_image.specs.Reads.{data_len, entries_of, LeavesRead, LeavesOneOf};
+ghost use Rattle.tm_image.specs.Reads.{data_len, entries_of, LeavesRead};
 ghost use Rattle.tm_image.specs.Seen.{Stands, staged, HasSameImage, IsSound, IsSettled};
-ghost use Rattle.tm_image.specs.Room.{brought_len, need_of, free_of, table_len, HasRoom};
-ghost use Rattle.tm_image.specs.Commit.{changed, brought_by, released_by, IsPut};
+ghost use Rattle.tm_image.specs.Room.{brought_len, free_of, table_len, HasRoom};
+ghost use Rattle.tm_image.specs.Commit.{changed, commit_need, brought_by, LeavesCommit, IsPut};
 
 use crate::{Changes, Image, ImageError};
 use std::alloc::{AllocError, Global};
@@ -81,9 +81,7 @@ impl Image {
         requires some { changed changes.remove.items changes.put.items self.old.records ≢ [] }
         requires tag { IsTag self.old.side tag }
         requires stands { W.told → Stands self.old (disk self.old.side (now (W.log world.old))) }
-        ensures any_moment { W.told → let old = disk self.old.side (now (W.log world.old)) in
-            Runs self.old.side (LeavesOneOf self.old.side (entries_of old.bytes self.old.records) self.old.root.tag
-            (entries_of old.bytes (changed changes.remove.items changes.put.items self.old.records)) tag) (W.log world.old) (W.log world.new) }
+        ensures any_moment { W.told → Runs self.old.side (LeavesCommit changes.remove.items changes.put.items tag self.old (disk self.old.side (now (W.log world.old))).bytes) (W.log world.old) (W.log world.new) }
         ensures stands { W.told → OnOk result (Stands self.new (disk self.old.side (now (W.log world.new)))) }
         ensures leaves { W.told → OnOk result (LeavesRead self.old.side (entries_of (disk self.old.side (now (W.log world.old))).bytes (changed changes.remove.items changes.put.items self.old.records)) tag (disk self.old.side (now (W.log world.new)))) }
         ensures data { W.told → OnOk result (entries_of (disk self.old.side (now (W.log world.new))).bytes self.new.records ≡ entries_of (disk self.old.side (now (W.log world.old))).bytes self.new.records) }
@@ -101,19 +99,16 @@ impl Image {
         ensures err { OnErr result (result ≢ Err ImageError.Fault → self.new ≡ self.old) }
         ensures faulted { result ≡ Err ImageError.Fault → (self.new.records ≡ changed changes.remove.items changes.put.items self.old.records) × (self.new.root ≡ self.old.root) }
         ensures untouched { OnErr result (result ≢ Err ImageError.Fault → world.new ≡ world.old) }
-        ensures full { (need free : ℕ) → result ≡ Err (ImageError.Full need free) → (free < need) × (free ≡ free_of self.old)
-            × (need ≡ need_of (table_len self.old.records) (table_len (changed changes.remove.items changes.put.items self.old.records)) (released_by changes.remove.items changes.put.items self.old.records)) }
-        ensures fits { OnOk result (need_of (table_len self.old.records) (table_len (changed changes.remove.items changes.put.items self.old.records)) (released_by changes.remove.items changes.put.items self.old.records) ≤ free_of self.old) }
-        ensures tried { IsErrOf result ImageError.Fault → need_of (table_len self.old.records) (table_len (changed changes.remove.items changes.put.items self.old.records)) (released_by changes.remove.items changes.put.items self.old.records) ≤ free_of self.old }
+        ensures full { (need free : ℕ) → result ≡ Err (ImageError.Full need free) → (free < need) × (free ≡ free_of self.old) × (need ≡ commit_need changes.remove.items changes.put.items self.old.records) }
+        ensures fits { OnOk result (commit_need changes.remove.items changes.put.items self.old.records ≤ free_of self.old) }
+        ensures tried { IsErrOf result ImageError.Fault → commit_need changes.remove.items changes.put.items self.old.records ≤ free_of self.old }
         ensures blocks { W.blocks world.new ≡ W.blocks world.old }
         ensures never_less { NeverLess (W.faults world.old) (W.faults world.new) }
         ensures fault { IsErrOf result ImageError.Fault → Rose (W.faults world.old (part_of self.old.side)) (W.faults world.new (part_of self.old.side)) }
     {
         let prepared = self.prepare(changes)?;
-        match self.finish(world, prepared, tag) {
-            Ok(()) => Ok(()),
-            Err(_) => Err(ImageError::Fault),
-        }
+        self.finish(world, prepared, tag)?;
+        Ok(())
     }
 
     /// As [`Image::try_commit`], but the blobs are given back where the commit is refused or memory
@@ -134,9 +129,7 @@ impl Image {
         requires some { changed changes.remove.items changes.put.items self.old.records ≢ [] }
         requires tag { IsTag self.old.side tag }
         requires stands { W.told → Stands self.old (disk self.old.side (now (W.log world.old))) }
-        ensures any_moment { W.told → let old = disk self.old.side (now (W.log world.old)) in
-            Runs self.old.side (LeavesOneOf self.old.side (entries_of old.bytes self.old.records) self.old.root.tag
-            (entries_of old.bytes (changed changes.remove.items changes.put.items self.old.records)) tag) (W.log world.old) (W.log world.new) }
+        ensures any_moment { W.told → Runs self.old.side (LeavesCommit changes.remove.items changes.put.items tag self.old (disk self.old.side (now (W.log world.old))).bytes) (W.log world.old) (W.log world.new) }
         ensures stands { W.told → result ≢ Err ImageError.Fault → Stands self.new (disk self.old.side (now (W.log world.new))) }
         ensures leaves { W.told → OnOk result (LeavesRead self.old.side (entries_of (disk self.old.side (now (W.log world.old))).bytes (changed changes.remove.items changes.put.items self.old.records)) tag (disk self.old.side (now (W.log world.new)))) }
         ensures data { W.told → OnOk result (entries_of (disk self.old.side (now (W.log world.new))).bytes self.new.records ≡ entries_of (disk self.old.side (now (W.log world.old))).bytes self.new.records) }
@@ -154,10 +147,9 @@ impl Image {
         ensures err { OnErr result (result ≢ Err ImageError.Fault → HasSameImage self.old self.new) }
         ensures faulted { result ≡ Err ImageError.Fault → (self.new.records ≡ changed changes.remove.items changes.put.items self.old.records) × (self.new.root ≡ self.old.root) }
         ensures untouched { OnErr result (result ≢ Err ImageError.Fault → world.new ≡ world.old) }
-        ensures full { (need free : ℕ) → result ≡ Err (ImageError.Full need free) → (free < need) × (free ≡ free_of self.old)
-            × (need ≡ need_of (table_len self.old.records) (table_len (changed changes.remove.items changes.put.items self.old.records)) (released_by changes.remove.items changes.put.items self.old.records)) }
-        ensures fits { OnOk result (need_of (table_len self.old.records) (table_len (changed changes.remove.items changes.put.items self.old.records)) (released_by changes.remove.items changes.put.items self.old.records) ≤ free_of self.old) }
-        ensures tried { IsErrOf result ImageError.Fault → need_of (table_len self.old.records) (table_len (changed changes.remove.items changes.put.items self.old.records)) (released_by changes.remove.items changes.put.items self.old.records) ≤ free_of self.old }
+        ensures full { (need free : ℕ) → result ≡ Err (ImageError.Full need free) → (free < need) × (free ≡ free_of self.old) × (need ≡ commit_need changes.remove.items changes.put.items self.old.records) }
+        ensures fits { OnOk result (commit_need changes.remove.items changes.put.items self.old.records ≤ free_of self.old) }
+        ensures tried { IsErrOf result ImageError.Fault → commit_need changes.remove.items changes.put.items self.old.records ≤ free_of self.old }
         ensures blocks { W.blocks world.new ≡ W.blocks world.old }
         ensures never_less { NeverLess (W.faults world.old) (W.faults world.new) }
         ensures fault { IsErrOf result ImageError.Fault → Rose (W.faults world.old (part_of self.old.side)) (W.faults world.new (part_of self.old.side)) }

@@ -87,3 +87,13 @@ impl From<tm_blockmap::Memory> for LoadError {
         LoadError::Memory
     }
 }
+
+impl From<AllocError> for LoadError {
+    ghost use Rattle.tm_image.specs.declared.error.LoadError.TheVariants.{Memory};
+
+    ghost from_gives = { λ _ e. e ≡ Memory };
+
+    fn from(_error: AllocError) -> LoadError {
+        LoadError::Memory
+    }
+}

@@ -2,6 +2,7 @@
 ghost use Rattle.std.specs.Prelude.{◌≡◌, ◌≢◌, ◌⊎◌, ◌≤◌, ◌<◌, ◌+◌, ℕ, None, false, IfOk, IfSome, IfNone, IsErrOf, Err, length, slice_index};
 ghost use Rattle.std.specs.List.{All, flat_map};
 ghost use Rattle.std.specs.Map.{values_of};
+ghost use Rattle.tm_base.specs.Limits.{max_blocks};
 ghost use Rattle.tm_world.specs.declared.cause.Cause.{Cause};
 ghost use Rattle.tm_gate.specs.Root.{IsRoot};
 ghost use Rattle.tm_blockmap.specs.Marks.{AreMarks};
@@ -77,7 +78,7 @@ fn build(
     records: BTreeMap<u64, Record>,
     blocks: u32,
 ) -> Result<Image, LoadError>
-    requires small { blocks ≤ 262144 }
+    requires small { blocks ≤ max_blocks }
     requires root { IsRoot side blocks gate.root }
     requires listed { IsBlockList gate.root.first blocks table.items }
     requires many { length table.items ≡ blocks_for gate.root.table_len }
@@ -216,7 +217,7 @@ impl Image {
         blocks: u32,
     ) -> Result<Image, LoadError>
         requires count { W.blocks world.old side ≡ blocks }
-        requires small { blocks ≤ 262144 }
+        requires small { blocks ≤ max_blocks }
         ensures side { IfOk result (λ m. m.side ≡ side) }
         ensures count { IfOk result (λ m. length m.used ≡ blocks) }
         ensures unstaged { IfOk result (λ m. (b : ℕ) → staged b m ≡ 0) }
@@ -232,25 +233,11 @@ impl Image {
         ensures never_less { NeverLess (W.faults world.old) (W.faults world.new) }
         ensures fault { IsErrOf result LoadError.Fault → Rose (W.faults world.old (part_of side)) (W.faults world.new (part_of side)) }
     {
-        let gate = match gate_of(world, side, blocks) {
-            Ok(gate) => gate,
-            Err(error) => return Err(error),
-        };
-        let chain = match table_of(alloc, world, side, &gate, blocks) {
-            Ok(chain) => chain,
-            Err(error) => return Err(error),
-        };
-        let records = match records_of(alloc, chain.text.as_slice(), blocks) {
-            Ok(records) => records,
-            Err(error) => return Err(error),
-        };
-        let table = match chain.blocks.as_slice().to_vec(alloc) {
-            Ok(table) => table,
-            Err(_) => return Err(LoadError::Memory),
-        };
-        match build(alloc, side, gate, table, records, blocks) {
-            Ok(image) => Ok(image),
-            Err(error) => Err(error),
-        }
+        let gate = gate_of(world, side, blocks)?;
+        let chain = table_of(alloc, world, side, &gate, blocks)?;
+        let records = records_of(alloc, chain.text.as_slice(), blocks)?;
+        let table = chain.blocks.as_slice().to_vec(alloc)?;
+        let image = build(alloc, side, gate, table, records, blocks)?;
+        Ok(image)
     }
 }

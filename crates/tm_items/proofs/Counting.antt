@@ -7,14 +7,12 @@ use Rattle.std.specs.Cmp.{ranks}
 use Rattle.std.specs.List.Sorted.{IsStrictlySortedBy}
 use Rattle.std.specs.Ordering.{nat_cmp, MatchOrdering}
 use Rattle.std.specs.declared.cmp.Ordering.TheVariants.{Less}
+use Rattle.tm_base.proofs.Facts.{false_true}
 use Rattle.tm_items.specs.Placings.{Placed, Items}
 use Rattle.tm_items.specs.Changes.{with_item, without_item}
 use Rattle.tm_items.specs.Computed.{Placings, items_of, AreNumbered}
 use Rattle.tm_items.specs.Laws.{AllTaken, FewNumbers}
 use Rattle.tm_items.proofs.Reading.{number_decides, above, among_from, some_of}
-
-truths : {P : Type 0} → false ≡ true → P
-truths h = cc
 
 pub same_number : (n m : ℕ) → is_at (nat_cmp n) m ≡ (m == n)
 same_number n m = one_answer (is_at (nat_cmp n) m) (m == n) (number_decides n m) (λ h. grind (arith, nat_tests), λ e. grind (arith, nat_tests))
@@ -59,7 +57,7 @@ head_is row rest a sorted high there =
 pub taken_from : (placings : Placings) (a n : ℕ) → AreNumbered placings → ((m : ℕ) → a ≤ m → m < a + n → is_some (items_of placings m) ≡ true) → n ≤ length placings
 unfolding IsStrictlySortedBy
 taken_from placings a zero sorted all = omega arith
-taken_from [] a (suc n) sorted all = truths (all a (omega arith) (omega arith))
+taken_from [] a (suc n) sorted all = false_true (all a (omega arith) (omega arith))
 taken_from (row ∷ rest) a (suc n) sorted all =
     elim (nat_lt row.0 a) as (λ b. nat_lt row.0 a ≡ b → suc n ≤ length (row ∷ rest)) [
       | true ↦ λ e.

@@ -14,6 +14,7 @@ use Rattle.std.specs.List.{AllByRecursion}
 use Rattle.std.specs.List.Sorted.{IsStrictlySortedBy}
 use Rattle.std.specs.Map.{keys_of, lookup}
 use Rattle.std.specs.BTreeMap.{is_at}
+use Rattle.tm_base.proofs.Facts.{false_true}
 use Rattle.tm_base.specs.Paths.{Names, name_cmp, path_cmp, same_path, is_root, parent_of}
 use Rattle.tm_base.proofs.PathLemmas.{path_cmp-append, same_path_decides}
 use Rattle.tm_tree.specs.declared.item.Item.{Item}
@@ -26,9 +27,6 @@ use Rattle.tm_items.specs.Listing.{rows_in, ListsChildren}
 use Rattle.tm_items.specs.Places.{at_name}
 use Rattle.tm_items.proofs.Walking.{walks_on, one_number, one_each, one_path}
 use Rattle.tm_items.proofs.Reading.{Among, chosen, some_of, last_step}
-
-clash : {P : Type 0} → false ≡ true → P
-clash h = cc
 
 -- ---- names
 
@@ -44,7 +42,7 @@ less_off a b low =
       | true ↦ λ here.
           let same : a ≡ b = (name_decides a b).0 here in
           let tied : is_eq (name_cmp b a) ≡ true = (name_decides b a).1 (sym same) in
-          clash (ap is_eq (sym low) ∙ tied)
+          false_true (ap is_eq (sym low) ∙ tied)
       | false ↦ λ _. refl
     ] refl
 
@@ -130,7 +128,7 @@ module _ (items : Items) (p : Names) (k : ℕ) where
       ap (λ (t : Tree). is_some (item_at t (path name))) (rows_are e es c)
       ∙ still_some (is_at (path_cmp (path name)) (path e.0)) c.placed.item (item_at (rows_in items p es) (path name)) (λ off.
       elim (chosen (is_at (name_cmp name) e.0) e.1 n (lookup (is_at (name_cmp name)) es) h) [
-        | inl hit ↦ clash (sym off ∙ (at_is (path name) (path e.0)).1 (ap path ((name_decides name e.0).0 hit.0)))
+        | inl hit ↦ false_true (sym off ∙ (at_is (path name) (path e.0)).1 (ap path ((name_decides name e.0).0 hit.0)))
         | inr past ↦ has_row es (λ q n a. kids q n (inr a)) name n past.1
       ])
 
@@ -149,7 +147,7 @@ child_path p name =
 child_of : (p r : Names) → is_child p r ≡ true → (is_root r ≡ false) × (parent_of r ≡ p)
 child_of p r h =
     elim (is_root r) as (λ b. is_root r ≡ b → (not b && same_path (parent_of r) p) ≡ true → (is_root r ≡ false) × (parent_of r ≡ p)) [
-      | true ↦ λ _ h. clash h
+      | true ↦ λ _ h. false_true h
       | false ↦ λ below h. (below, (same_path_decides (parent_of r) p).0 h)
     ] refl h
 
@@ -158,11 +156,11 @@ children_at t p r = lookup-filter-keys (is_at (path_cmp r)) (is_child p) (is_chi
 
 kept : (b : Bool) (o : Option Item) → is_some (cond b o None) ≡ true → (b ≡ true) × (is_some o ≡ true)
 kept true o h = (refl, h)
-kept false o h = clash h
+kept false o h = false_true h
 
 same_answers : (o r : Option Item) → ((e : Item) → o ≡ Some e → r ≡ Some e) → (is_some r ≡ true → is_some o ≡ true) → o ≡ r
 same_answers None None h g = refl
-same_answers None (Some e) h g = clash (g refl)
+same_answers None (Some e) h g = false_true (g refl)
 same_answers (Some e) r h g = sym (h e refl)
 
 pub lists_children : ListsChildren

@@ -3,9 +3,11 @@ use Rattle.std.proofs.Common.{◌≡◌, ℕ, ◌+◌, ◌-◌, ◌<◌, ◌≤�
 use Rattle.std.proofs.lemmas.Bool.Decides.{nat_tests}
 use Rattle.std.proofs.lemmas.List.{take_more, take_all, drop_all}
 use Rattle.std.proofs.lemmas.Option.{slice_get_within, get_or_from_slice_get}
+use Rattle.tm_base.proofs.Facts.{none_some, true_false}
 use Rattle.tm_base.specs.Paths.{Names, parent_of, is_root}
 use Rattle.tm_base.specs.declared.refused.Refused.{Refused}
 use Rattle.tm_base.specs.declared.refused.Refused.TheVariants.{NotFound, NotFolder}
+use Rattle.tm_tree.proofs.WalkSteps.{walk_step, walk_end, walk_on, walk_missing, walk_into, walk_blocked, walk_stops}
 use Rattle.tm_tree.specs.declared.item.Item.{Item}
 use Rattle.tm_tree.specs.Items.{is_folder}
 use Rattle.tm_tree.specs.Trees.{Tree, item_at, last_of, is_some_folder, folder_at}
@@ -20,12 +22,6 @@ use Rattle.tm_items.specs.Laws.{WayStarts, WayStands, WayGoesOn, WayMisses, WayI
 use Rattle.tm_items.proofs.Walking.{walks_on, walk_parts, one_number, one_each, have_names}
 use Rattle.tm_items.proofs.Reading.{some_of}
 use Rattle.tm_items.proofs.Avoiding.{number_is, folder_above}
-
-none_some : {X P : Type 0} {x : X} → None ≡ Some x → P
-none_some h = cc
-
-truths : {P : Type 0} → true ≡ false → P
-truths h = cc
 
 -- ---- a path and its last name
 
@@ -67,28 +63,6 @@ nothing_there items t numbers are index q name a w none =
     ] refl
 
 -- ---- the walk of the tree, a name at a time
-
--- on the way, at the first i names of p
-walk_step : (t : Tree) (p : Names) (i : ℕ) → i < length p → walk_from t (take i p) (drop i p) ≡ through (item_at t (take i p)) (walk_from t (take (i + 1) p) (drop (i + 1) p))
-walk_step t p i h = rw (take_more p i [] h, add-one, drop-cons p i [])
-
--- at its end
-walk_end : (t : Tree) (p : Names) (i : ℕ) → i ≡ length p → walk_from t (take i p) (drop i p) ≡ found (item_at t p)
-walk_end t p i h = let ends : length p ≤ i = omega arith in rw (take_all i p ends, drop_all i p ends)
-
--- a walk that has come to the first i names of p, where o stands
-walk_on : (t : Tree) (p : Names) (i : ℕ) (o : Option Item) (w : Result Item Refused) → i < length p → w ≡ walk_from t (take i p) (drop i p) → item_at t (take i p) ≡ o → w ≡ through o (walk_from t (take (i + 1) p) (drop (i + 1) p))
-walk_on t p i o w h comes here = comes ∙ walk_step t p i h ∙ ap (λ (x : Option Item). through x (walk_from t (take (i + 1) p) (drop (i + 1) p))) here
-
-walk_into : (t : Tree) (p : Names) (i : ℕ) (e : Item) (w : Result Item Refused) → i < length p → w ≡ walk_from t (take i p) (drop i p) → item_at t (take i p) ≡ Some e → is_folder e ≡ true → w ≡ walk_from t (take (i + 1) p) (drop (i + 1) p)
-walk_into t p i e w h comes here is = walk_on t p i (Some e) w h comes here ∙ rw is
-
-walk_blocked : (t : Tree) (p : Names) (i : ℕ) (e : Item) (w : Result Item Refused) → i < length p → w ≡ walk_from t (take i p) (drop i p) → item_at t (take i p) ≡ Some e → is_folder e ≡ false → w ≡ Err NotFolder
-walk_blocked t p i e w h comes here is = walk_on t p i (Some e) w h comes here ∙ rw is
-
-walk_stops : (t : Tree) (done rest : Names) → item_at t done ≡ None → walk_from t done rest ≡ Err NotFound
-walk_stops t done [] h = rw h
-walk_stops t done (n ∷ rest) h = rw h
 
 one_name_more : (p : Names) (i : ℕ) (name : List ℕ) → slice_get p i ≡ Some name → take (i + 1) p ≡ take i p ++ name ∷ []
 one_name_more p i name at = take_more p i [] (slice_get_within p i name at) ∙ ap (λ (n : List ℕ). take i p ++ n ∷ []) (get_or_from_slice_get p i name [] at)
@@ -174,7 +148,7 @@ place_free items t numbers p k are index below into none = is_none (numbers (pla
   where
     is_none : (o : Option ℕ) → is_some o ≡ false → o ≡ None
     is_none None h = refl
-    is_none (Some n) h = truths h
+    is_none (Some n) h = true_false h
 
 -- n stands at p as a child of the folder of p
 pub own_child : (items : Items) → IsSound items → (p : Names) (n k : ℕ) → is_root p ≡ false → Walks items 1 p n → Walks items 1 (parent_of p) k → IsChild items k (last_of p) n
@@ -205,6 +179,6 @@ nothing_in items numbers n sound index none m x is out =
 pub nothing_in_leaf : NothingInLeaf
 nothing_in_leaf items n sound leaf m x is out =
     elim (x.parent == n) as (λ b. (x.parent == n) ≡ b → b ≡ false) [
-      | true ↦ λ here. truths (sym ((sound m).placed x is out).in_folder ∙ ap (λ (k : ℕ). is_folder_placed (items k)) (number_is x.parent n here) ∙ leaf)
+      | true ↦ λ here. true_false (sym ((sound m).placed x is out).in_folder ∙ ap (λ (k : ℕ). is_folder_placed (items k)) (number_is x.parent n here) ∙ leaf)
       | false ↦ λ _. refl
     ] refl

@@ -9,6 +9,7 @@ use Rattle.std.specs.Cmp.Lexicographic.{slice_cmp, nat_list_cmp_total}
 use Rattle.std.specs.Bool.{Decides}
 use Rattle.std.specs.FinMap.{IsAntisymmetric, nat_cmp-IsAntisymmetric, slice_cmp-IsAntisymmetric}
 use Rattle.std.specs.BTreeMap.{is_at}
+use Rattle.tm_base.proofs.Facts.{false_true, none_some}
 use Rattle.tm_base.specs.Paths.{parent_of}
 use Rattle.tm_tree.specs.declared.item.Item.{Item}
 use Rattle.tm_tree.specs.Items.{dated}
@@ -21,12 +22,6 @@ use Rattle.tm_items.specs.Laws.{IndexPlaces, IndexRemoves, IndexMoves, IndexRepl
 use Rattle.tm_items.proofs.Walking.{OneEach, one_each}
 use Rattle.tm_items.proofs.Avoiding.{DifferAt, number_is, itself, with_at, with_differs, no_child, not_free, back_at}
 use Rattle.tm_items.proofs.Finding.{from_root, last_apart, own_child, own_place}
-
-none_some : {X P : Type 0} {x : X} → None ≡ Some x → P
-none_some h = cc
-
-truths : {P : Type 0} → false ≡ true → P
-truths h = cc
 
 -- ---- places are told apart
 
@@ -75,7 +70,7 @@ pub which : (place : Place) (o : Option ℕ) (old new : Numbers) (q : Place) (k 
 which place o old new q k sets is =
     elim (is_at (place_cmp place) q) as (λ b. is_at (place_cmp place) q ≡ b → cond b o (old q) ≡ Some k → ((place ≡ q) × (o ≡ Some k)) ⊎ ((place ≡ q → ⊥) × (old q ≡ Some k))) [
       | true ↦ λ at h. inl ((place_decides place q).0 at, h)
-      | false ↦ λ off h. inr (λ e. truths (sym off ∙ (place_decides place q).1 e), h)
+      | false ↦ λ off h. inr (λ e. false_true (sym off ∙ (place_decides place q).1 e), h)
     ] refl (sym (sets.at q) ∙ is)
 
 -- a set and an unset at a free place leave what was
@@ -102,7 +97,7 @@ child_at_kept n items new d a k None off c = c
 child_at_kept n items new d a k (Some name) off c = child_kept n items new d a k name off c
 
 apart : (m n : ℕ) → (m == n) ≡ false → m ≡ n → ⊥
-apart m n off e = truths (sym off ∙ ap (λ (l : ℕ). l == n) e ∙ itself n)
+apart m n off e = false_true (sym off ∙ ap (λ (l : ℕ). l == n) e ∙ itself n)
 
 -- a child is the one item of its number, with its place
 child_item : (items : Items) (n a k : ℕ) (name : List ℕ) (x : Placed) → items n ≡ Some x → IsChild items a name k → k ≡ n → place_of x ≡ at_name a name

@@ -1,20 +1,15 @@
 -- Items as they are read by rising number.
 use Rattle.std.proofs.Common.{◌≡◌, ℕ, suc, zero, nat_lt, ◌+◌, ◌-◌, ◌<◌, ◌≤◌, ◌==◌, Bool, true, false, not, ◌&&◌, List, refl, sym, ap, ◌∙◌, subst, Option, Some, None, is_some, arith, inl, inr}
 use Rattle.std.proofs.lemmas.Bool.Decides.{nat_tests}
+use Rattle.tm_base.proofs.Facts.{false_true, none_some}
 use Rattle.tm_tree.specs.Items.{is_folder, is_excluded}
 use Rattle.tm_items.specs.Placings.{Placed, Items}
-use Rattle.tm_items.specs.Rules.{IsPlaced, IsRoot, RootStands, Keeps, is_root_placed, climbs}
+use Rattle.tm_items.specs.Rules.{IsPlaced, IsRoot, RootStands, FollowsRules, is_root_placed, climbs}
 use Rattle.tm_items.specs.Places.{at_name, place_of}
 use Rattle.tm_items.specs.Index.{Numbers, IsChildAt, IsLoaded}
 use Rattle.tm_items.specs.Laws.{LoadStarts, LoadSkips, LoadTakes, LoadEnds, RootBreaks, FolderBreaks, DepthBreaks, NameBreaks, PlaceBreaks}
 use Rattle.tm_items.proofs.Avoiding.{number_is}
 use Rattle.tm_items.proofs.Indexing.{which, hit, past, not_so, same_place}
-
-none_some : {X P : Type 0} {x : X} → None ≡ Some x → P
-none_some h = cc
-
-truths : {P : Type 0} → false ≡ true → P
-truths h = cc
 
 off_root : (n : ℕ) → 2 ≤ n → (n == 1) ≡ false
 off_root n two = grind (arith, nat_tests)
@@ -52,7 +47,7 @@ climbs_end items (suc f) n h = absurd (omega arith)
 
 and_parts : (a b : Bool) → (a && b) ≡ true → (a ≡ true) × (b ≡ true)
 and_parts true b h = (refl, h)
-and_parts false b h = truths h
+and_parts false b h = false_true h
 
 pub root_of : (x : Placed) → is_root_placed (Some x) ≡ true → IsRoot x
 root_of x h =
@@ -63,10 +58,10 @@ root_of x h =
   where
     no_name : (o : Option (List ℕ)) → not (is_some o) ≡ true → o ≡ None
     no_name None h = refl
-    no_name (Some n) h = truths h
+    no_name (Some n) h = false_true h
 
     none_true : (b : Bool) → not b ≡ true → b ≡ false
-    none_true true h = truths h
+    none_true true h = false_true h
     none_true false h = refl
 
 pub of_root : (x : Placed) → IsRoot x → is_root_placed (Some x) ≡ true
@@ -75,14 +70,14 @@ of_root x r =
     rw (zero_is, r.name, r.folder, r.included) refl
 
 pub root_there : (items : Items) (o : Option Placed) → items 1 ≡ o → is_root_placed o ≡ true → RootStands items
-root_there items None is h = truths h
+root_there items None is h = false_true h
 root_there items (Some x) is h = record { placed = x; is = is; root = root_of x h }
 
 pub root_breaks : RootBreaks
-root_breaks items h keeps = let r = keeps.root refl in truths (sym h ∙ ap is_root_placed r.is ∙ of_root r.placed r.root)
+root_breaks items h keeps = let r = keeps.root refl in false_true (sym h ∙ ap is_root_placed r.is ∙ of_root r.placed r.root)
 
 -- where number 0 has no item, all numbers below the root's keep the rules
-pub none_below_root : (items : Items) → items 0 ≡ None → (m : ℕ) → m < 1 → Keeps items m
+pub none_below_root : (items : Items) → items 0 ≡ None → (m : ℕ) → m < 1 → FollowsRules items m
 none_below_root items low m lower = record { root = λ one. absurd (omega arith); placed = λ x is out. none_some (sym low ∙ ap items (zero_is m lower) ∙ is) }
   where
     zero_is : (m : ℕ) → m < 1 → 0 ≡ m
@@ -109,13 +104,13 @@ load_starts items none h =
 -- ---- a failing test breaks a rule
 
 pub folder_breaks : FolderBreaks
-folder_breaks items n x two is h keeps = truths (sym h ∙ (keeps.placed x is (off_root n two)).in_folder)
+folder_breaks items n x two is h keeps = false_true (sym h ∙ (keeps.placed x is (off_root n two)).in_folder)
 
 pub depth_breaks : DepthBreaks
-depth_breaks items n x two is h keeps = truths (sym h ∙ (keeps.placed x is (off_root n two)).near)
+depth_breaks items n x two is h keeps = false_true (sym h ∙ (keeps.placed x is (off_root n two)).near)
 
 pub name_breaks : NameBreaks
-name_breaks items n x two is h keeps = truths (ap is_some (sym h) ∙ (keeps.placed x is (off_root n two)).named)
+name_breaks items n x two is h keeps = false_true (ap is_some (sym h) ∙ (keeps.placed x is (off_root n two)).named)
 
 pub place_breaks : PlaceBreaks
 place_breaks items n k x numbers loaded two is at keeps =
@@ -124,16 +119,16 @@ place_breaks items n k x numbers loaded two is at keeps =
     taken : (o : Option (List ℕ)) → x.name ≡ o → IsChildAt items x.parent o k → ⊥
     taken None e c = c
     taken (Some name) e c =
-        truths (sym c.not_root ∙ (keeps.placed x is (off_root n two)).first k c.placed (loaded.index_is.low (place_of x) k at) c.is c.parent (c.name ∙ sym e))
+        false_true (sym c.not_root ∙ (keeps.placed x is (off_root n two)).first k c.placed (loaded.index_is.low (place_of x) k at) c.is c.parent (c.name ∙ sym e))
 
 -- ---- a number more
 
 same_or_below : (m n : ℕ) → m < n + 1 → (m == n) ≡ false → m < n
 same_or_below m n h off = grind (arith, nat_tests)
 
-keep_more : (items : Items) (n : ℕ) → ((m : ℕ) → m < n → Keeps items m) → Keeps items n → (m : ℕ) → m < n + 1 → Keeps items m
-keep_more items n below h m low = elim (m == n) as (λ b. (m == n) ≡ b → Keeps items m) [
-  | true ↦ λ here. subst (λ (l : ℕ). Keeps items l) (sym (number_is m n here)) h
+keep_more : (items : Items) (n : ℕ) → ((m : ℕ) → m < n → FollowsRules items m) → FollowsRules items n → (m : ℕ) → m < n + 1 → FollowsRules items m
+keep_more items n below h m low = elim (m == n) as (λ b. (m == n) ≡ b → FollowsRules items m) [
+  | true ↦ λ here. subst (λ (l : ℕ). FollowsRules items l) (sym (number_is m n here)) h
   | false ↦ λ off. below m (same_or_below m n low off)
 ] refl
 
@@ -153,7 +148,7 @@ load_skips items n numbers loaded two none = record {
 -- in its place stands no item with a lower number
 alone : (items : Items) (n : ℕ) (x : Placed) (numbers : Numbers) → IsLoaded items n numbers → (o : Option (List ℕ)) → x.name ≡ o → is_some o ≡ true → numbers (place_of x) ≡ None
     → (m : ℕ) (y : Placed) → m < n → items m ≡ Some y → y.parent ≡ x.parent → y.name ≡ x.name → (m == 1) ≡ true
-alone items n x numbers loaded None e h free m y low is parent called = truths h
+alone items n x numbers loaded None e h free m y low is parent called = false_true h
 alone items n x numbers loaded (Some name) e h free m y low is parent called =
     elim (m == 1) as (λ b. (m == 1) ≡ b → b ≡ true) [
       | true ↦ λ _. refl
@@ -195,14 +190,14 @@ load_takes items n x old new loaded two is folder near named free sets = record 
     same z is_z = let e : Some x ≡ Some z = sym is ∙ is_z in cc (e)
 
     child : (o : Option (List ℕ)) → x.name ≡ o → is_some o ≡ true → IsChildAt items x.parent o n
-    child None e h = truths h
+    child None e h = false_true h
     child (Some name) e h = record { placed = x; is = is; parent = refl; name = e; not_root = off_root n two }
 
 -- ---- at the end
 
 pub load_ends : LoadEnds
 load_ends items n numbers loaded two above = (
-  λ m. elim (nat_lt m n) as (λ b. nat_lt m n ≡ b → Keeps items m) [
+  λ m. elim (nat_lt m n) as (λ b. nat_lt m n ≡ b → FollowsRules items m) [
     | true ↦ λ low. loaded.below m (grind (arith, nat_tests))
     | false ↦ λ high. let up : n ≤ m = grind (arith, nat_tests) in
         record { root = λ one. absurd (omega arith); placed = λ x is out. none_some (sym (above m up) ∙ is) }

@@ -2,12 +2,13 @@
 use Rattle.std.proofs.Common.{◌≡◌, ℕ, ◌<◌, ◌==◌, true, false, List, [], ◌∷◌, ◌++◌, length, length-append, refl, sym, ap, ◌∙◌, subst, Some, None, arith, append-nil, ◌⊎◌, inl, inr}
 use Rattle.std.proofs.lemmas.Bool.Decides.{nat_tests}
 use Rattle.std.specs.BTreeMap.{is_at}
+use Rattle.tm_base.proofs.Facts.{false_true, none_some}
 use Rattle.tm_tree.specs.declared.item.Item.{Item}
 use Rattle.tm_base.specs.Paths.{Names, path_cmp}
 use Rattle.tm_tree.specs.Trees.{Tree, item_at, put}
 use Rattle.tm_tree.proofs.AtPaths.{item_at-put, in_order_put}
 use Rattle.tm_tree.proofs.CopyProofs.{at_is}
-use Rattle.tm_items.specs.Placings.{Placed, Items, IsChild, Walks, Stands, ReadsAs}
+use Rattle.tm_items.specs.Placings.{Placed, Items, IsChild, Walks, LeadsTo, ReadsAs}
 use Rattle.tm_items.specs.Rules.{IsSound, IsPlaced, is_folder_placed}
 use Rattle.tm_items.specs.Changes.{with_item}
 use Rattle.tm_items.proofs.Walking.{walks_on, one_path, reached, climbs_far, climbs_walk}
@@ -23,15 +24,6 @@ pub record Makes (items : Items) (t : Tree) (n k : ℕ) (q : Names) (name : List
   pub into : Walks items 1 q k
   pub folder : is_folder_placed (items k) ≡ true
   pub none : item_at t (q ++ name ∷ []) ≡ None
-
-no_item : {x : Placed} → None ≡ Some x → ⊥
-no_item h = cc
-
-no_entry : {e : Item} → None ≡ Some e → ⊥
-no_entry h = cc
-
-truths : false ≡ true → ⊥
-truths h = cc
 
 pub flip : (n : ℕ) → (n == 1) ≡ false → (1 == n) ≡ false
 flip n h = grind (arith, nat_tests)
@@ -56,7 +48,7 @@ module _ (items : Items) (t : Tree) (n k : ℕ) (q : Names) (name : List ℕ) (e
   made = walks_on new 1 k n q (name ∷ []) (on_new 1 k q can.into) (n, record { placed = x; is = with_at items n x; parent = refl; name = refl; not_root = can.not_root }, refl)
 
   no_parent : is_folder_placed (items n) ≡ true → ⊥
-  no_parent h = truths (ap is_folder_placed (sym can.free) ∙ h)
+  no_parent h = false_true (ap is_folder_placed (sym can.free) ∙ h)
 
   none_below : (m : ℕ) (c : List ℕ) → IsChild new n c m → (m == n) ≡ false → ⊥
   none_below m c child off =
@@ -76,11 +68,11 @@ module _ (items : Items) (t : Tree) (n k : ℕ) (q : Names) (name : List ℕ) (e
   elsewhere : (r : Names) (f : Item) → item_at t r ≡ Some f → is_at (path_cmp r) p ≡ false
   elsewhere r f is =
       elim (is_at (path_cmp r) p) as (λ b. is_at (path_cmp r) p ≡ b → b ≡ false) [
-        | true ↦ λ here. absurd (no_entry (sym can.none ∙ ap (item_at t) (sym ((at_is r p).0 here)) ∙ is))
+        | true ↦ λ here. absurd (none_some (sym can.none ∙ ap (item_at t) (sym ((at_is r p).0 here)) ∙ is))
         | false ↦ λ _. refl
       ] refl
 
-  old_stands : (r : Names) (f : Item) (s : Stands new r f) → Avoids items n 1 r s.number → item_at t r ≡ Some f
+  old_stands : (r : Names) (f : Item) (s : LeadsTo new r f) → Avoids items n 1 r s.number → item_at t r ≡ Some f
   old_stands r f s a =
       can.reads.there r f (record {
         number = s.number;
@@ -104,7 +96,7 @@ module _ (items : Items) (t : Tree) (n k : ℕ) (q : Names) (name : List ℕ) (e
         ];
     only = λ r f is.
         elim (chosen (is_at (path_cmp r) p) e f (item_at t r) (sym (item_at-put t p e r) ∙ is)) [
-          | inl hit ↦ subst (λ (y : Names). Stands new y f) (sym ((at_is r p).0 hit.0)) (record { number = n; walks = made; placed = x; is = with_at items n x; item = hit.1 })
+          | inl hit ↦ subst (λ (y : Names). LeadsTo new y f) (sym ((at_is r p).0 hit.0)) (record { number = n; walks = made; placed = x; is = with_at items n x; item = hit.1 })
           | inr past ↦
               let s = can.reads.only r f past.1 in
               let a = free_avoids items n can.free 1 s.number r s.walks in
@@ -137,7 +129,7 @@ module _ (items : Items) (t : Tree) (n k : ℕ) (q : Names) (name : List ℕ) (e
   }
 
   no_one : (m : ℕ) → m ≡ n → items m ≡ Some x → ⊥
-  no_one m e is = no_item (sym can.free ∙ ap items (sym e) ∙ is)
+  no_one m e is = none_some (sym can.free ∙ ap items (sym e) ∙ is)
 
   placed_m : (m : ℕ) (y : Placed) → items m ≡ Some y → (m == 1) ≡ false → IsPlaced new m y
   placed_m m y is out =

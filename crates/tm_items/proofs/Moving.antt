@@ -2,13 +2,14 @@
 use Rattle.std.proofs.Common.{◌≡◌, ℕ, ◌+◌, ◌<◌, ◌≤◌, ◌==◌, Bool, true, false, List, [], ◌∷◌, ◌++◌, length, drop, length-append, refl, sym, ap, ◌∙◌, subst, Some, None, is_some, arith, append_assoc, append-nil, ◌⊎◌, inl, inr, if◌then◌else◌}
 use Rattle.std.proofs.lemmas.Bool.Decides.{nat_tests}
 use Rattle.std.proofs.lemmas.List.Prefix.{front_rest}
+use Rattle.tm_base.proofs.Facts.{none_some, true_false}
 use Rattle.tm_tree.specs.declared.item.Item.{Item}
 use Rattle.tm_base.specs.Paths.{Names, is_prefix}
 use Rattle.tm_tree.specs.Trees.{Tree, item_at, moved, rekeyed}
 use Rattle.tm_base.proofs.PathLemmas.{prefix_is, is_prefix_of_append}
 use Rattle.tm_tree.proofs.MovesKept.{moved_at}
 use Rattle.tm_tree.proofs.TreesKept.{nothing_beneath}
-use Rattle.tm_items.specs.Placings.{Placed, Items, Walks, Stands, ReadsAs}
+use Rattle.tm_items.specs.Placings.{Placed, Items, Walks, LeadsTo, ReadsAs}
 use Rattle.tm_items.specs.Rules.{IsSound, IsPlaced, is_folder_placed, climbs}
 use Rattle.tm_items.specs.Changes.{with_item}
 use Rattle.tm_items.proofs.Walking.{walks_on, walk_parts, one_path, one_number, one_each, reached, climbs_far, climbs_walk}
@@ -29,12 +30,6 @@ pub record Moves (items : Items) (t : Tree) (n : ℕ) (x : Placed) (a : Names) (
   pub none : item_at t (q ++ name ∷ []) ≡ None
   pub apart : is_prefix a (q ++ name ∷ []) ≡ false
   pub short : (rest : Names) → is_some (item_at t (a ++ rest)) ≡ true → length (q ++ name ∷ []) + length rest ≤ 64
-
-clash : {P : Type 0} → true ≡ false → P
-clash h = cc
-
-none_some : {P : Type 0} {e : Item} → None ≡ Some e → P
-none_some h = cc
 
 nothing_longer : (a rest : Names) → a ≡ a ++ rest → rest ≡ []
 nothing_longer a [] h = refl
@@ -57,7 +52,7 @@ module _ (items : Items) (t : Tree) (n : ℕ) (x : Placed) (a : Names) (k : ℕ)
   into_avoids : Avoids items n 1 q k
   into_avoids = elim (last_passage items n 1 k q can.into) [
     | inl avoids ↦ avoids
-    | inr pass ↦ clash (sym (apart_q pass.front pass.back pass.parts (one_path items n pass.front a pass.to can.from)) ∙ can.apart)
+    | inr pass ↦ true_false (sym (apart_q pass.front pass.back pass.parts (one_path items n pass.front a pass.to can.from)) ∙ can.apart)
   ]
 
   not_k : (k == n) ≡ false
@@ -73,7 +68,7 @@ module _ (items : Items) (t : Tree) (n : ℕ) (x : Placed) (a : Names) (k : ℕ)
   past_a : (m : ℕ) (r : Names) → is_prefix a r ≡ false → Walks items 1 r m → Avoids items n 1 r m
   past_a m r h w = elim (last_passage items n 1 m r w) [
     | inl avoids ↦ avoids
-    | inr pass ↦ clash (sym (is_prefix_of_append a r pass.back (pass.parts ∙ ap (λ (u : Names). u ++ pass.back) (one_path items n pass.front a pass.to can.from))) ∙ h)
+    | inr pass ↦ true_false (sym (is_prefix_of_append a r pass.back (pass.parts ∙ ap (λ (u : Names). u ++ pass.back) (one_path items n pass.front a pass.to can.from))) ∙ h)
   ]
 
   -- a walk beneath n does not come back to n
@@ -110,15 +105,15 @@ module _ (items : Items) (t : Tree) (n : ℕ) (x : Placed) (a : Names) (k : ℕ)
     | false ↦ λ off. record { placed = z; is = (with_differs items n y).same m off ∙ is; item = item }
   ] refl
 
-  to_new : (m : ℕ) (r : Names) (e : Item) (z : Placed) → Walks new 1 r m → items m ≡ Some z → z.item ≡ e → Stands new r e
+  to_new : (m : ℕ) (r : Names) (e : Item) (z : Placed) → Walks new 1 r m → items m ≡ Some z → z.item ≡ e → LeadsTo new r e
   to_new m r e z w is item = let i = new_item m z e is item in record { number = m; walks = w; placed = i.placed; is = i.is; item = i.item }
 
-  beneath_b : (rest : Names) (e : Item) → item_at t (a ++ rest) ≡ Some e → Stands new (b ++ rest) e
+  beneath_b : (rest : Names) (e : Item) → item_at t (a ++ rest) ≡ Some e → LeadsTo new (b ++ rest) e
   beneath_b rest e is =
       let s = can.reads.only (a ++ rest) e is in
       to_new s.number (b ++ rest) e s.placed (under_b s.number rest (below_a s.number rest s.walks)) s.is s.item
 
-  beside : (r : Names) (e : Item) → is_prefix a r ≡ false → item_at t r ≡ Some e → Stands new r e
+  beside : (r : Names) (e : Item) → is_prefix a r ≡ false → item_at t r ≡ Some e → LeadsTo new r e
   beside r e out is =
       let s = can.reads.only r e is in
       to_new s.number r e s.placed (avoids_walks new n 1 s.number r (avoids_alike n items new (with_differs items n y) 1 s.number r (past_a s.number r out s.walks))) s.is s.item
@@ -140,7 +135,7 @@ module _ (items : Items) (t : Tree) (n : ℕ) (x : Placed) (a : Names) (k : ℕ)
     | true ↦ λ h.
         let parts = avoids_parts items n 1 m a (drop (length a) r) (subst (λ (u : Names). Avoids items n 1 u m) (prefix_is a r h) w) in
         let same = one_number items (one_each items can.sound) 1 parts.0 n a (avoids_walks items n 1 parts.0 a parts.1) can.from in
-        clash (sym (itself n) ∙ subst (λ (u : ℕ). (u == n) ≡ false) same (end_avoids items n 1 parts.0 a (flip n can.not_root) parts.1))
+        true_false (sym (itself n) ∙ subst (λ (u : ℕ). (u == n) ≡ false) same (end_avoids items n 1 parts.0 a (flip n can.not_root) parts.1))
     | false ↦ λ _. refl
   ] refl
 
@@ -159,7 +154,7 @@ module _ (items : Items) (t : Tree) (n : ℕ) (x : Placed) (a : Names) (k : ℕ)
   rest_of : (back : Names) (r : Names) → r ≡ b ++ back → drop (length b) r ≡ back
   rest_of back r e = front_rest r b back e
 
-  there_moved : (r : Names) (e : Item) (s : Stands new r e) → Avoids new n 1 r s.number ⊎ Passes new n 1 r s.number → item_at (moved t a b) r ≡ Some e
+  there_moved : (r : Names) (e : Item) (s : LeadsTo new r e) → Avoids new n 1 r s.number ⊎ Passes new n 1 r s.number → item_at (moved t a b) r ≡ Some e
   there_moved r e s (inl avoids) =
       let old = avoids_alike n new items (back_at n items new (with_differs items n y)) 1 s.number r avoids in
       let i = old_item s.number s.placed e s.is s.item in
@@ -173,8 +168,8 @@ module _ (items : Items) (t : Tree) (n : ℕ) (x : Placed) (a : Names) (k : ℕ)
       let is = can.reads.there (a ++ pass.back) e (record { number = s.number; walks = walks_on items 1 n s.number a pass.back can.from down; placed = i.0; is = i.1; item = i.2 }) in
       at r ∙ rw (is_prefix_of_append b r pass.back parts, rest_of pass.back r parts) is
 
-  only_moved : (r : Names) (e : Item) (under_b under_a : Bool) → is_prefix b r ≡ under_b → is_prefix a r ≡ under_a → (if under_b then item_at t (a ++ drop (length b) r) else if under_a then None else item_at t r) ≡ Some e → Stands new r e
-  only_moved r e true u h g is = subst (λ (v : Names). Stands new v e) (sym (prefix_is b r h)) (beneath_b (drop (length b) r) e is)
+  only_moved : (r : Names) (e : Item) (under_b under_a : Bool) → is_prefix b r ≡ under_b → is_prefix a r ≡ under_a → (if under_b then item_at t (a ++ drop (length b) r) else if under_a then None else item_at t r) ≡ Some e → LeadsTo new r e
+  only_moved r e true u h g is = subst (λ (v : Names). LeadsTo new v e) (sym (prefix_is b r h)) (beneath_b (drop (length b) r) e is)
   only_moved r e false true h g is = none_some is
   only_moved r e false false h g is = beside r e g is
 

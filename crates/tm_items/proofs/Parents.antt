@@ -2,15 +2,13 @@
 use Rattle.std.proofs.Common.{◌≡◌, ℕ, suc, ◌-◌, ◌==◌, true, false, [], ◌++◌, length, drop, refl, sym, ap, ◌∙◌, arith, length-append, length-take}
 use Rattle.std.proofs.lemmas.Bool.Decides.{nat_tests}
 use Rattle.std.proofs.lemmas.List.{take-append-drop}
+use Rattle.tm_base.proofs.Facts.{true_false}
 use Rattle.tm_base.specs.Paths.{Names, is_prefix, is_root, parent_of}
 use Rattle.tm_base.proofs.PathLemmas.{prefix_is, is_prefix_of_append}
 use Rattle.tm_tree.proofs.CopyProofs.{is_prefix_trans}
 use Rattle.tm_items.specs.Placings.{Items, Walks}
 use Rattle.tm_items.proofs.Walking.{one_path}
 use Rattle.tm_items.proofs.Avoiding.{number_is}
-
-clash : {P : Type 0} → true ≡ false → P
-clash h = cc
 
 long : (p : Names) → is_root p ≡ false → length p ≡ suc (length p - 1)
 long p h = grind (arith, nat_tests)
@@ -42,6 +40,6 @@ own_parent p out =
 pub not_one : (items : Items) (n : ℕ) (p : Names) → is_root p ≡ false → Walks items 1 p n → (n == 1) ≡ false
 not_one items n p below w =
     elim (n == 1) as (λ b. (n == 1) ≡ b → b ≡ false) [
-      | true ↦ λ e. clash (sym (ap is_root (one_path items n p [] w (sym (number_is n 1 e)))) ∙ below)
+      | true ↦ λ e. true_false (sym (ap is_root (one_path items n p [] w (sym (number_is n 1 e)))) ∙ below)
       | false ↦ λ _. refl
     ] refl

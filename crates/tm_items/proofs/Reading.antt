@@ -18,7 +18,7 @@ use Rattle.tm_tree.specs.Trees.{is_some_folder, IsTree}
 use Rattle.tm_tree.proofs.Order.{InOrder}
 use Rattle.tm_tree.proofs.AtPaths.{trees_equal, item_at-put, in_order_put_all}
 use Rattle.tm_tree.proofs.CopyProofs.{at_is}
-use Rattle.tm_items.specs.Placings.{Placed, Items, IsChild, Walks, Stands, ReadsAs}
+use Rattle.tm_items.specs.Placings.{Placed, Items, IsChild, Walks, LeadsTo, ReadsAs}
 use Rattle.tm_items.specs.Rules.{IsSound, is_folder_placed}
 use Rattle.tm_items.specs.Computed.{Placings, items_of, path_to, placed_rows, tree_of}
 use Rattle.tm_items.proofs.Walking.{one_number, one_each, one_path, reached}
@@ -174,7 +174,7 @@ of_rows rows p e is = elim (put_all_only rows [] p e is) [ inl a ↦ a | inr non
     nothing : {e : Item} → None ≡ Some e → ⊥
     nothing h = cc
 
-stands : (placings : Placings) → IsStrictlySortedBy nat_cmp (keys_of placings) → IsSound (items_of placings) → (p : Names) (e : Item) → Among (placed_rows (items_of placings) placings) p e → Stands (items_of placings) p e
+stands : (placings : Placings) → IsStrictlySortedBy nat_cmp (keys_of placings) → IsSound (items_of placings) → (p : Names) (e : Item) → Among (placed_rows (items_of placings) placings) p e → LeadsTo (items_of placings) p e
 stands placings sorted sound p e a =
     let items = items_of placings in
     let r = row_from items placings p e a in
@@ -184,7 +184,7 @@ stands placings sorted sound p e a =
 path_to_is : (placings : Placings) → IsSound (items_of placings) → (n : ℕ) (x : Placed) (p : Names) → items_of placings n ≡ Some x → Walks (items_of placings) 1 p n → path_to 64 (items_of placings) n ≡ p
 path_to_is placings sound n x p is w = one_path (items_of placings) n (path_to 64 (items_of placings) n) p (reached (items_of placings) sound n x is) w
 
-pub same_entry_at : (items : Items) → IsSound items → (p : Names) (e f : Item) → Stands items p e → Stands items p f → e ≡ f
+pub same_entry_at : (items : Items) → IsSound items → (p : Names) (e f : Item) → LeadsTo items p e → LeadsTo items p f → e ≡ f
 same_entry_at items sound p e f s r =
     let same : s.number ≡ r.number = one_number items (one_each items sound) 1 s.number r.number p s.walks r.walks in
     let is : Some s.placed ≡ Some r.placed = sym s.is ∙ ap items same ∙ r.is in
@@ -196,7 +196,7 @@ pub tree_reads : (placings : Placings) → IsStrictlySortedBy nat_cmp (keys_of p
 unfolding tree_of IsStrictlySortedBy
 tree_reads placings sorted sound =
     let items = items_of placings in
-    let only : (p : Names) (e : Item) → item_at (put_all [] (placed_rows items placings)) p ≡ Some e → Stands items p e = λ p e is. stands placings sorted sound p e (of_rows (placed_rows items placings) p e is) in
+    let only : (p : Names) (e : Item) → item_at (put_all [] (placed_rows items placings)) p ≡ Some e → LeadsTo items p e = λ p e is. stands placings sorted sound p e (of_rows (placed_rows items placings) p e is) in
     record {
       in_order = in_order_put_all [] (placed_rows items placings) tt;
       there = λ p e s.

@@ -1,6 +1,7 @@
 -- An item less, in which nothing stands.
 use Rattle.std.proofs.Common.{◌≡◌, ℕ, ◌==◌, Bool, true, false, cond, [], ◌∷◌, ◌++◌, refl, sym, ap, ◌∙◌, subst, Option, Some, None, arith, ◌⊎◌, inl, inr, append-nil}
 use Rattle.std.specs.BTreeMap.{is_at}
+use Rattle.tm_base.proofs.Facts.{false_true, none_some}
 use Rattle.tm_tree.specs.declared.item.Item.{Item}
 use Rattle.tm_base.specs.Paths.{Names, path_cmp}
 use Rattle.tm_tree.specs.Trees.{Tree, item_at, without}
@@ -13,12 +14,6 @@ use Rattle.tm_items.proofs.Walking.{one_path, one_number, one_each, reached, cli
 use Rattle.tm_items.proofs.Avoiding.{Avoids, DifferAt, avoids_walks, end_avoids, itself, last_passage, back_at, avoids_alike, not_free}
 use Rattle.tm_items.proofs.Making.{flip}
 use Rattle.tm_items.proofs.Parents.{not_one}
-
-none_some : {X P : Type 0} {x : X} → None ≡ Some x → P
-none_some h = cc
-
-truths : {P : Type 0} → false ≡ true → P
-truths h = cc
 
 module _ (items : Items) (t : Tree) (p : Names) (n k : ℕ) (are : Are items t) (can : CanRemove items t p n k) where
   not_root : (n == 1) ≡ false
@@ -36,7 +31,7 @@ module _ (items : Items) (t : Tree) (p : Names) (n k : ℕ) (are : Are items t) 
   -- nothing stands beneath n
   ends : (m : ℕ) (back : Names) → Avoids items n n back m → (back ≡ []) × (m ≡ n)
   ends m [] w = (refl, sym w)
-  ends m (c ∷ back) w = truths (sym (can.empty w.0 w.1.placed w.1.is w.1.not_root) ∙ ap (λ (k : ℕ). k == n) w.1.parent ∙ itself n)
+  ends m (c ∷ back) w = false_true (sym (can.empty w.0 w.1.placed w.1.is w.1.not_root) ∙ ap (λ (k : ℕ). k == n) w.1.parent ∙ itself n)
 
   split : (m : ℕ) (r : Names) → Walks items 1 r m → Avoids items n 1 r m ⊎ ((r ≡ p) × (m ≡ n))
   split m r w = elim (last_passage items n 1 m r w) [
@@ -67,7 +62,7 @@ module _ (items : Items) (t : Tree) (p : Names) (n k : ℕ) (are : Are items t) 
         let s = are.reads.only r e old.1 in
         elim (split s.number r s.walks) [
           | inl a ↦ record { number = s.number; walks = avoids_walks new n 1 s.number r (avoids_alike n items new differs 1 s.number r a); placed = s.placed; is = differs.same s.number (end_avoids items n 1 s.number r (flip n not_root) a) ∙ s.is; item = s.item }
-          | inr z ↦ truths (sym old.0 ∙ (at_is p r).1 (sym z.0))
+          | inr z ↦ false_true (sym old.0 ∙ (at_is p r).1 (sym z.0))
         ];
   }
     where
@@ -77,7 +72,7 @@ module _ (items : Items) (t : Tree) (p : Names) (n k : ℕ) (are : Are items t) 
 
       elsewhere : (r : Names) (m : ℕ) → Walks items 1 r m → (m == n) ≡ false → is_at (path_cmp p) r ≡ false
       elsewhere r m w off = elim (is_at (path_cmp p) r) as (λ b. is_at (path_cmp p) r ≡ b → b ≡ false) [
-        | true ↦ λ at. truths (sym off ∙ ap (λ (k : ℕ). k == n) (one_number items (one_each items are.sound) 1 m n p (subst (λ (u : Names). Walks items 1 u m) (sym ((at_is p r).0 at)) w) can.stands) ∙ itself n)
+        | true ↦ λ at. false_true (sym off ∙ ap (λ (k : ℕ). k == n) (one_number items (one_each items are.sound) 1 m n p (subst (λ (u : Names). Walks items 1 u m) (sym ((at_is p r).0 at)) w) can.stands) ∙ itself n)
         | false ↦ λ _. refl
       ] refl
 
@@ -98,7 +93,7 @@ module _ (items : Items) (t : Tree) (p : Names) (n k : ℕ) (are : Are items t) 
           first = λ l y low is_y parent called. old.first l y low (old_of l y is_y).0 parent called;
           near = elim (split m _ w) [
             | inl a ↦ climbs_walk new m _ 64 (avoids_walks new n 1 m _ (avoids_alike n items new differs 1 m _ a)) (omega (arith, far.1))
-            | inr z ↦ truths (sym o.1 ∙ ap (λ (k : ℕ). k == n) z.1 ∙ itself n)
+            | inr z ↦ false_true (sym o.1 ∙ ap (λ (k : ℕ). k == n) z.1 ∙ itself n)
           ];
         };
   }

@@ -2,6 +2,7 @@
 use Rattle.std.proofs.Common.{◌≡◌, ℕ, ◌==◌, true, false, cond, List, [], ◌∷◌, refl, sym, ap, ◌∙◌, subst, Some, is_some, option_map, arith}
 use Rattle.std.proofs.lemmas.Bool.Decides.{nat_tests}
 use Rattle.std.specs.BTreeMap.{is_at}
+use Rattle.tm_base.proofs.Facts.{false_true}
 use Rattle.tm_tree.specs.declared.item.Item.{Item}
 use Rattle.tm_tree.specs.Items.{is_folder}
 use Rattle.tm_base.specs.Paths.{Names, path_cmp}
@@ -11,14 +12,11 @@ use Rattle.tm_tree.proofs.Edits.{item_at-change, keys-change}
 use Rattle.tm_tree.proofs.Order.{InOrder}
 use Rattle.std.specs.List.Sorted.{IsStrictlySortedBy}
 use Rattle.tm_tree.proofs.CopyProofs.{at_is}
-use Rattle.tm_items.specs.Placings.{Placed, Items, Walks, Stands, ReadsAs}
+use Rattle.tm_items.specs.Placings.{Placed, Items, Walks, LeadsTo, ReadsAs}
 use Rattle.tm_items.specs.Rules.{IsSound, is_folder_placed, RootStands}
 use Rattle.tm_items.specs.Changes.{with_item, Are, CanReplace, replaced_items, ReplaceReads}
 use Rattle.tm_items.proofs.Walking.{one_path, one_number, one_each, reached, climbs_far, climbs_walk}
 use Rattle.tm_items.proofs.Avoiding.{number_is, with_at, with_differs}
-
-clash : {P : Type 0} → false ≡ true → P
-clash h = cc
 
 flip_one : (n : ℕ) → (1 == n) ≡ true → (n == 1) ≡ true
 flip_one n h = grind (arith, nat_tests)
@@ -70,11 +68,11 @@ module _ (items : Items) (t : Tree) (n : ℕ) (x : Placed) (p : Names) (e : Item
 
   elsewhere : (r : Names) (m : ℕ) → is_at (path_cmp r) p ≡ false → Walks items 1 r m → (m == n) ≡ false
   elsewhere r m past w = elim (m == n) as (λ b. (m == n) ≡ b → b ≡ false) [
-    | true ↦ λ here. clash (sym past ∙ (at_is r p).1 (one_path items m r p w (subst (λ (u : ℕ). Walks items 1 p u) (sym (number_is m n here)) can.stands)))
+    | true ↦ λ here. false_true (sym past ∙ (at_is r p).1 (one_path items m r p w (subst (λ (u : ℕ). Walks items 1 p u) (sym (number_is m n here)) can.stands)))
     | false ↦ λ off. refl
   ] refl
 
-  there_set : (r : Names) (f : Item) (s : Stands new r f) → cond (is_at (path_cmp r) p) (Some e) (item_at t r) ≡ Some f
+  there_set : (r : Names) (f : Item) (s : LeadsTo new r f) → cond (is_at (path_cmp r) p) (Some e) (item_at t r) ≡ Some f
   there_set r f s =
       elim (is_at (path_cmp r) p) as (λ b. is_at (path_cmp r) p ≡ b → cond b (Some e) (item_at t r) ≡ Some f) [
         | true ↦ λ hit.
@@ -88,9 +86,9 @@ module _ (items : Items) (t : Tree) (n : ℕ) (x : Placed) (p : Names) (e : Item
             are.reads.there r f (record { number = s.number; walks = walks_old 1 s.number r s.walks; placed = s.placed; is = sym ((with_differs items n y).same s.number off) ∙ s.is; item = s.item })
       ] refl
 
-  only_set : (r : Names) (f : Item) → item_at (put t p e) r ≡ Some f → Stands new r f
+  only_set : (r : Names) (f : Item) → item_at (put t p e) r ≡ Some f → LeadsTo new r f
   only_set r f is =
-      elim (is_at (path_cmp r) p) as (λ b. is_at (path_cmp r) p ≡ b → cond b (Some e) (item_at t r) ≡ Some f → Stands new r f) [
+      elim (is_at (path_cmp r) p) as (λ b. is_at (path_cmp r) p ≡ b → cond b (Some e) (item_at t r) ≡ Some f → LeadsTo new r f) [
         | true ↦ λ hit same.
             let e_same : e ≡ f = cc same in
             record { number = n; walks = walks_new 1 n r (subst (λ (u : Names). Walks items 1 u n) (sym ((at_is r p).0 hit)) can.stands); placed = y; is = with_at items n y; item = e_same }
@@ -168,7 +166,7 @@ changed_is_put f t p e h is =
           rw ((at_is q p).1 (sym same), ap (item_at t) (sym same) ∙ is) refl
       | false ↦ λ off.
           elim (is_at (path_cmp q) p) as (λ b. is_at (path_cmp q) p ≡ b → item_at t q ≡ cond b (Some (f e)) (item_at t q)) [
-            | true ↦ λ here. clash (sym off ∙ (at_is p q).1 (sym ((at_is q p).0 here)))
+            | true ↦ λ here. false_true (sym off ∙ (at_is p q).1 (sym ((at_is q p).0 here)))
             | false ↦ λ _. refl
           ] refl
     ] refl

@@ -1,6 +1,7 @@
 -- Walks down the names of a path.
 use Rattle.std.proofs.Common.{◌≡◌, ℕ, suc, zero, ◌+◌, ◌-◌, ◌<◌, ◌≤◌, ◌==◌, true, false, List, [], ◌∷◌, ◌++◌, length, refl, sym, ap, ◌∙◌, subst, Option, Some, None, is_some, arith, append_assoc, append-nil, zero-add, nat_lt}
 use Rattle.std.proofs.lemmas.Bool.Decides.{nat_tests}
+use Rattle.tm_base.proofs.Facts.{true_false}
 use Rattle.tm_base.specs.Paths.{Names}
 use Rattle.tm_items.specs.Placings.{Placed, Items, IsChild, Walks}
 use Rattle.tm_items.specs.Rules.{climbs, IsSound}
@@ -114,9 +115,6 @@ to_child items q n x (Some name) is out e h w = walks_on items 1 x.parent n q (n
 is_one : (n : ℕ) → (n == 1) ≡ true → 1 ≡ n
 is_one n h = grind (arith, nat_tests)
 
-clash : true ≡ false → ⊥
-clash e = cc
-
 -- the path of a number leads to it
 pub climbed : (items : Items) → HaveNames items → (f n : ℕ) → climbs f items n ≡ true → Walks items 1 (path_to f items n) n
 unfolding climbs path_to
@@ -125,7 +123,7 @@ climbed items named (suc f) n h =
     elim (n == 1) as (λ b. (n == 1) ≡ b → Walks items 1 (path_to (suc f) items n) n) [
       | true ↦ λ e. rw e (is_one n e)
       | false ↦ λ e. elim (items n) as (λ o. items n ≡ o → Walks items 1 (path_to (suc f) items n) n) [
-        | None ↦ λ is. absurd (clash (sym (rw (e, is) at h)))
+        | None ↦ λ is. absurd (true_false (sym (rw (e, is) at h)))
         | Some x ↦ λ is. rw (e, is) (to_child items (path_to f items x.parent) n x x.name is e refl (named n x is e) (climbed items named f x.parent (rw (e, is) at h)))
       ] refl
     ] refl

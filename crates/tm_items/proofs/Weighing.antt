@@ -8,6 +8,7 @@ use Rattle.std.specs.List.{sum_by}
 use Rattle.std.specs.List.Sorted.{IsStrictlySortedBy}
 use Rattle.std.specs.Map.{keys_of}
 use Rattle.std.specs.BTreeMap.{is_at}
+use Rattle.tm_base.proofs.Facts.{true_false}
 use Rattle.tm_base.specs.Paths.{Names, path_cmp}
 use Rattle.tm_tree.specs.declared.item.Item.{Item}
 use Rattle.tm_tree.specs.Trees.{Tree, item_at, put, put_all}
@@ -19,9 +20,6 @@ use Rattle.tm_items.specs.Computed.{Placings, items_of, under, path_to, placed_r
 use Rattle.tm_items.proofs.Walking.{one_number, one_each, reached}
 use Rattle.tm_items.proofs.Reading.{one_tree, tree_reads, Among, above, found_among}
 use Rattle.tm_items.proofs.Avoiding.{number_is}
-
-clash : {P : Type 0} → true ≡ false → P
-clash h = cc
 
 -- ---- rows put where nothing stood
 
@@ -92,7 +90,7 @@ last_is (c ∷ q) name =
     ap (slice_get (c ∷ q ++ name ∷ [])) more ∙ last_is q name
 
 last_under : (q : Names) (o : Option (List ℕ)) → is_some o ≡ true → last_name (under q o) ≡ o
-last_under q None h = clash (sym h)
+last_under q None h = true_false (sym h)
 last_under q (Some name) h = last_is q name
 
 called : (items : Items) → IsSound items → (f n : ℕ) (x : Placed) → items n ≡ Some x → last_name (path_to (suc f) items n) ≡ x.name

@@ -3,7 +3,7 @@ use Rattle.std.specs.Prelude.{◌≡◌, ℕ, ◌<◌, if◌then◌else◌, Opti
 use Rattle.std.specs.BTreeMap.{is_at}
 use Rattle.tm_items.specs.Placings.{Items, IsChild}
 use Rattle.tm_items.specs.Places.{Place, place_cmp, at_name}
-use Rattle.tm_items.specs.Rules.{Keeps}
+use Rattle.tm_items.specs.Rules.{FollowsRules}
 
 -- the number at each place
 abbrev pub Numbers : Type 0
@@ -32,5 +32,5 @@ pub record IsIndexBelow (items : Items) (n : ℕ) (numbers : Numbers) : Type 0 w
 
 -- all numbers below n keep the rules, and stand in the index
 pub record IsLoaded (items : Items) (n : ℕ) (numbers : Numbers) : Type 0 where
-  pub below : (m : ℕ) → m < n → Keeps items m
+  pub below : (m : ℕ) → m < n → FollowsRules items m
   pub index_is : IsIndexBelow items n numbers

@@ -6,7 +6,7 @@ use Rattle.tm_tree.specs.declared.item.Item.{Item}
 use Rattle.tm_tree.specs.Trees.{Tree, item_at}
 use Rattle.tm_tree.specs.Walks.{walk}
 use Rattle.tm_items.specs.Placings.{Placed, Items, Walks}
-use Rattle.tm_items.specs.Rules.{is_folder_placed, is_root_placed, climbs, Keeps, IsSound}
+use Rattle.tm_items.specs.Rules.{is_folder_placed, is_root_placed, climbs, FollowsRules, IsSound}
 use Rattle.tm_items.specs.Computed.{Placings, items_of, AreNumbered}
 use Rattle.tm_items.specs.Changes.{date_item, Are, CanPlace, placed_items, replaced_items, CanRemove, removed_items, CanMove, moved_items}
 use Rattle.tm_items.specs.Places.{Place, at_name, place_in, place_of}
@@ -127,20 +127,20 @@ LoadEnds = (items : Items) (n : ℕ) (numbers : Numbers) → IsLoaded items n nu
 
 -- an item that fails a test breaks a rule
 abbrev pub RootBreaks : Type 0
-RootBreaks = (items : Items) → is_root_placed (items 1) ≡ false → Keeps items 1 → ⊥
+RootBreaks = (items : Items) → is_root_placed (items 1) ≡ false → FollowsRules items 1 → ⊥
 
 abbrev pub FolderBreaks : Type 0
-FolderBreaks = (items : Items) (n : ℕ) (x : Placed) → 2 ≤ n → items n ≡ Some x → is_folder_placed (items x.parent) ≡ false → Keeps items n → ⊥
+FolderBreaks = (items : Items) (n : ℕ) (x : Placed) → 2 ≤ n → items n ≡ Some x → is_folder_placed (items x.parent) ≡ false → FollowsRules items n → ⊥
 
 abbrev pub DepthBreaks : Type 0
-DepthBreaks = (items : Items) (n : ℕ) (x : Placed) → 2 ≤ n → items n ≡ Some x → climbs 64 items n ≡ false → Keeps items n → ⊥
+DepthBreaks = (items : Items) (n : ℕ) (x : Placed) → 2 ≤ n → items n ≡ Some x → climbs 64 items n ≡ false → FollowsRules items n → ⊥
 
 abbrev pub NameBreaks : Type 0
-NameBreaks = (items : Items) (n : ℕ) (x : Placed) → 2 ≤ n → items n ≡ Some x → x.name ≡ None → Keeps items n → ⊥
+NameBreaks = (items : Items) (n : ℕ) (x : Placed) → 2 ≤ n → items n ≡ Some x → x.name ≡ None → FollowsRules items n → ⊥
 
 abbrev pub PlaceBreaks : Type 0
 PlaceBreaks = (items : Items) (n k : ℕ) (x : Placed) (numbers : Numbers) → IsLoaded items n numbers → 2 ≤ n → items n ≡ Some x
-    → numbers (place_of x) ≡ Some k → Keeps items n → ⊥
+    → numbers (place_of x) ≡ Some k → FollowsRules items n → ⊥
 
 -- ---- how many there are
 

@@ -30,7 +30,7 @@ Walks items a [] n = a ≡ n
 Walks items a (name ∷ rest) n = (k : ℕ) × IsChild items a name k × Walks items k rest n
 
 -- from the root, p leads to the item e
-pub record Stands (items : Items) (p : Names) (e : Item) : Type 0 where
+pub record LeadsTo (items : Items) (p : Names) (e : Item) : Type 0 where
   pub number : ℕ
   pub walks : Walks items 1 p number
   pub placed : Placed
@@ -40,8 +40,8 @@ pub record Stands (items : Items) (p : Names) (e : Item) : Type 0 where
 -- the items read as this tree: what stands at each path is what the path leads to
 pub record ReadsAs (items : Items) (t : Tree) : Type 0 where
   pub in_order : IsStrictlySortedBy path_cmp (keys_of t)
-  pub there : (p : Names) (e : Item) → Stands items p e → item_at t p ≡ Some e
-  pub only : (p : Names) (e : Item) → item_at t p ≡ Some e → Stands items p e
+  pub there : (p : Names) (e : Item) → LeadsTo items p e → item_at t p ≡ Some e
+  pub only : (p : Names) (e : Item) → item_at t p ≡ Some e → LeadsTo items p e
 
 -- items read as at most one tree
 abbrev pub OneTree : Type 0

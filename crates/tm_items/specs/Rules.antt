@@ -42,9 +42,9 @@ pub record RootStands (items : Items) : Type 0 where
   pub root : IsRoot placed
 
 -- the rules of one number, against all items
-pub record Keeps (items : Items) (n : ℕ) : Type 0 where
+pub record FollowsRules (items : Items) (n : ℕ) : Type 0 where
   pub root : n ≡ 1 → RootStands items
   pub placed : (x : Placed) → items n ≡ Some x → (n == 1) ≡ false → IsPlaced items n x
 
 abbrev pub IsSound : Items → Type 0
-IsSound items = (n : ℕ) → Keeps items n
+IsSound items = (n : ℕ) → FollowsRules items n

@@ -12,33 +12,33 @@ use Rattle.tm_store_records.specs.States.{StoredStore}
 use Rattle.tm_volume.specs.Stored.{StoredVolume}
 use Rattle.tm_world.specs.Log.{Log, now}
 use Rattle.tm_world.proofs.Going.{Passes-none}
-use Rattle.tm_machine.specs.Allowed.{Did, MayBackUp, MayDo, MayDoBy, MayDoOther}
+use Rattle.tm_machine.specs.Allowed.{Did, MayBackUp, MayDo, MayDoBy, MayDoChangeless}
 use Rattle.tm_machine.specs.Backups.{copy_of}
 use Rattle.tm_machine.specs.Changing.{change_of}
-use Rattle.tm_machine.specs.Commits.{commits_by, undone_by}
-use Rattle.tm_machine.specs.Session.{Does, Effect, Seen, Standing, effect, line_effect, other_effect, state_on}
+use Rattle.tm_machine.specs.Commits.{done_by, undone_by}
+use Rattle.tm_machine.specs.Session.{Does, Effect, Seen, Standing, effect, line_effect, changeless_effect, state_on}
 use Rattle.tm_machine.specs.States.{State, kept}
-use Rattle.tm_machine.specs.Steps.{after_by, change_tests, changed, left_by, rows, tests_by}
+use Rattle.tm_machine.specs.Steps.{after_by, change_tests, changed, after_refused_by, rows, tests_by}
 use Rattle.tm_machine.proofs.Resting.{state}
 
 -- ---- what the plain machine does a line may do
 
-plain_backup : (n k : ℕ) (v : Option StoredVolume) (z : Option StoredStore) (moment : Option ℕ) → MayBackUp (state n k v z moment) (other_effect (state n k v z moment) line.StartBackupBlock)
+plain_backup : (n k : ℕ) (v : Option StoredVolume) (z : Option StoredStore) (moment : Option ℕ) → MayBackUp (state n k v z moment) (changeless_effect (state n k v z moment) line.StartBackupBlock)
 plain_backup n k None z moment = record { tree = []; is = refl; exact = λ fits. refl }
 plain_backup n k (Some v) None moment = record { tree = []; is = refl; exact = λ fits. refl }
 plain_backup n k (Some v) (Some z) None = record { tree = copy_of z.store v.volume; is = refl; exact = λ fits. refl }
 plain_backup n k (Some v) (Some z) (Some date) = record { tree = copy_of z.store v.volume; is = refl; exact = λ fits. refl }
 
-plain_other : (s : State) (l : Line) → MayDoOther s l (other_effect s l)
-plain_other s line.StartBackupBlock = plain_backup s.volume_blocks s.store_blocks s.volume s.store s.moment
-plain_other s _ = refl
+plain_changeless : (s : State) (l : Line) → MayDoChangeless s l (changeless_effect s l)
+plain_changeless s line.StartBackupBlock = plain_backup s.volume_blocks s.store_blocks s.volume s.store s.moment
+plain_changeless s _ = refl
 
-pub other_is : (s : State) (l : Line) → change_of l ≡ None → other_effect s l ≡ line_effect s l
-other_is s l e = (λ i. record { tested = tests_by s l (sym e i); rows = rows s l; after = after_by s l (sym e i); commits = commits_by s l (sym e i); left = left_by s l (sym e i); undone = undone_by s l (sym e i) })
+pub changeless_is : (s : State) (l : Line) → change_of l ≡ None → changeless_effect s l ≡ line_effect s l
+changeless_is s l e = (λ i. record { tested = tests_by s l (sym e i); rows = rows s l; after = after_by s l (sym e i); commits = done_by s l (sym e i); after_refused = after_refused_by s l (sym e i); undone = undone_by s l (sym e i) })
 
 plain_by : (s : State) (l : Line) (o : Option Change) → change_of l ≡ o → MayDoBy s l o (line_effect s l)
 plain_by s l (Some c) e = refl
-plain_by s l None e = subst (MayDoOther s l) (other_is s l e) (plain_other s l)
+plain_by s l None e = subst (MayDoChangeless s l) (changeless_is s l e) (plain_changeless s l)
 
 pub plain_may : (s : State) (l : Line) → MayDo s l (line_effect s l)
 plain_may s l = plain_by s l (change_of l) refl
@@ -57,7 +57,7 @@ rows_none s (line.StoreCat item) c e = absurd (none-some c e)
 rows_none s _ c e = refl
 
 change_is : (s : State) (l : Line) (c : Change) → change_of l ≡ Some c → effect (change_tests s c) [] (changed s c) (kept (changed s c) ∷ []) s ≡ line_effect s l
-change_is s l c e = (λ i. record { tested = tests_by s l (sym e i); rows = sym (rows_none s l c e) i; after = after_by s l (sym e i); commits = commits_by s l (sym e i); left = left_by s l (sym e i); undone = undone_by s l (sym e i) })
+change_is s l c e = (λ i. record { tested = tests_by s l (sym e i); rows = sym (rows_none s l c e) i; after = after_by s l (sym e i); commits = done_by s l (sym e i); after_refused = after_refused_by s l (sym e i); undone = undone_by s l (sym e i) })
 
 module _ (l : Line) (m new : Seen) (start end : Log) (result : Result (List ReplyRow) LineFault) where
   abbrev s : State
@@ -66,7 +66,7 @@ module _ (l : Line) (m new : Seen) (start end : Log) (result : Result (List Repl
   pub did_change : (c : Change) → change_of l ≡ Some c → Does (effect (change_tests s c) [] (changed s c) (kept (changed s c) ∷ []) s) m new start end result → Did (MayDo s l) m new start end result
   did_change c e does = record { effect = line_effect s l; may = plain_may s l; does = subst (λ (d : Effect). Does d m new start end result) (change_is s l c e) does }
 
-  pub did_other : change_of l ≡ None → Did (MayDoOther s l) m new start end result → Did (MayDo s l) m new start end result
+  pub did_other : change_of l ≡ None → Did (MayDoChangeless s l) m new start end result → Did (MayDo s l) m new start end result
   did_other e did = record { effect = did.effect; may = subst (λ (o : Option Change). MayDoBy s l o did.effect) (sym e) did.may; does = did.does }
 
 -- want of memory before anything is done
@@ -78,7 +78,7 @@ pub did_default : (l : Line) (m : Seen) (start : Log)
     → ((x : _) → l ≡ line.At x → ⊥) → ((x : _) (y : _) (z : _) → l ≡ line.NewVolume x y z → ⊥) → ((x : _) → l ≡ line.NewStore x → ⊥)
     → ((x : _) → l ≡ line.Ls x → ⊥) → ((x : _) → l ≡ line.Cat x → ⊥) → (l ≡ line.StartBackupBlock → ⊥)
     → (l ≡ line.ListBackups → ⊥) → (l ≡ line.LatestBackup → ⊥) → (l ≡ line.MachineDirectory → ⊥) → ((x : _) → l ≡ line.StoreLs x → ⊥) → ((x : _) → l ≡ line.StoreCat x → ⊥)
-    → Standing m (now start) → Did (MayDoOther (state_on m (now start)) l) m m start start (Err (RefusedFor NotBuilt))
+    → Standing m (now start) → Did (MayDoChangeless (state_on m (now start)) l) m m start start (Err (RefusedFor NotBuilt))
 did_default (line.At x) m start a b c d e f g h i j k standing = absurd (a x refl)
 did_default (line.NewVolume x y z) m start a b c d e f g h i j k standing = absurd (b x y z refl)
 did_default (line.NewStore x) m start a b c d e f g h i j k standing = absurd (c x refl)
@@ -91,7 +91,7 @@ did_default line.MachineDirectory m start a b c d e f g h i j k standing = absur
 did_default (line.StoreLs x) m start a b c d e f g h i j k standing = absurd (j x refl)
 did_default (line.StoreCat x) m start a b c d e f g h i j k standing = absurd (k x refl)
 did_default l m start a b c d e f g h i j k standing = record {
-  effect = other_effect (state_on m (now start)) l;
+  effect = changeless_effect (state_on m (now start)) l;
   may = refl;
   does = record { replies = (refl, refl); standing = standing; moments = Passes-none start _ };
 }

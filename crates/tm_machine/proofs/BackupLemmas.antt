@@ -14,8 +14,8 @@ use Rattle.tm_world.specs.Runs.{Runs}
 use Rattle.tm_world.specs.declared.world.Side.TheVariants.{Volume as VolumeSide, Store as StoreSide}
 use Rattle.tm_world.proofs.Going.{Runs-weaker, Runs-then}
 use Rattle.tm_world.proofs.Pairs.{Runs-ends}
-use Rattle.tm_machine.specs.Backups.{AnswersBackup, AnswersCopy, IsOneOf, LeavesOneOf, dated, ends_as, finishes_as, unless, walk_refusal}
-use Rattle.tm_machine.specs.Steps.{at_rest}
+use Rattle.tm_machine.specs.Backups.{AnswersBackup, AnswersCopy, IsOneOfStores, LeavesOneOfStores, dated, ends_as, finishes_as, walk_refusal}
+use Rattle.tm_machine.specs.Steps.{at_rest, unless_refused}
 
 -- what holds of a store and a volume holds of those that are equal to them
 pub moved : (P : ℕ → StoreState → StoredVolume → Type 0) (b c : ℕ) (s t : StoreState) (v w : StoredVolume) → c ≡ b → t ≡ s → w ≡ v → P c t w → P b s v
@@ -43,32 +43,32 @@ module _ (blocks : ℕ) (z : StoredStore) (v : StoredVolume) (date : ℕ) (new :
   abbrev later : List StoredStore
   later = dated z.store date ∷ ends_as new blocks z.store v.volume ∷ []
 
-  first_of : (image : Image) → StoreReads image z → IsOneOf z later image
+  first_of : (image : Image) → StoreReads image z → IsOneOfStores z later image
   first_of image reads = record { made = 0; few = omega arith; reads = reads }
 
-  second_of : (image : Image) → StoreReads image (dated z.store date) → IsOneOf z later image
+  second_of : (image : Image) → StoreReads image (dated z.store date) → IsOneOfStores z later image
   second_of image reads = record { made = 1; few = omega arith; reads = reads }
 
-  third_of : (image : Image) → StoreReads image (ends_as new blocks z.store v.volume) → IsOneOf z later image
+  third_of : (image : Image) → StoreReads image (ends_as new blocks z.store v.volume) → IsOneOfStores z later image
   third_of image reads = record { made = 2; few = omega arith; reads = reads }
 
-  one_begun : (d : Disk) → LeavesStore z (dated z.store date) d → LeavesOneOf z later d
+  one_begun : (d : Disk) → LeavesStore z (dated z.store date) d → LeavesOneOfStores z later d
   one_begun d left image is = ⊎_elim (first_of image) (second_of image) (left image is)
 
   ends_refused : (why : Refused) → walks ≡ Some why → at_rest z.store ≡ ends_as new blocks z.store v.volume
-  ends_refused why e = sym (ap (λ (x : Option Refused). unless x (at_rest z.store) (at_rest new)) e)
+  ends_refused why e = sym (ap (λ (x : Option Refused). unless_refused x (at_rest z.store) (at_rest new)) e)
 
-  one_finished : (d : Disk) → LeavesStore (dated z.store date) (finishes_as new blocks z.store v.volume date) d → LeavesOneOf z later d
+  one_finished : (d : Disk) → LeavesStore (dated z.store date) (finishes_as new blocks z.store v.volume date) d → LeavesOneOfStores z later d
   one_finished d left image is = ⊎_elim (second_of image) (by_walk walks refl) (left image is)
     where
-      by_walk : (w : Option Refused) → walks ≡ w → StoreReads image (finishes_as new blocks z.store v.volume date) → IsOneOf z later image
+      by_walk : (w : Option Refused) → walks ≡ w → StoreReads image (finishes_as new blocks z.store v.volume date) → IsOneOfStores z later image
       by_walk None e reads = third_of image (subst (λ (x : StoredStore). StoreReads image x)
-          (ap (λ (x : Option Refused). unless x (dated z.store date) (at_rest new)) e
-          ∙ sym (ap (λ (x : Option Refused). unless x (at_rest z.store) (at_rest new)) e)) reads)
+          (ap (λ (x : Option Refused). unless_refused x (dated z.store date) (at_rest new)) e
+          ∙ sym (ap (λ (x : Option Refused). unless_refused x (at_rest z.store) (at_rest new)) e)) reads)
       by_walk (Some why) e reads = second_of image (subst (λ (x : StoredStore). StoreReads image x)
-          (ap (λ (x : Option Refused). unless x (dated z.store date) (at_rest new)) e) reads)
+          (ap (λ (x : Option Refused). unless_refused x (dated z.store date) (at_rest new)) e) reads)
 
-  one_cancelled : (why : Refused) → walks ≡ Some why → (old : StoredStore) → old ≡ dated z.store date → (d : Disk) → LeavesStore old (record { store = old.store; running = None }) d → LeavesOneOf z later d
+  one_cancelled : (why : Refused) → walks ≡ Some why → (old : StoredStore) → old ≡ dated z.store date → (d : Disk) → LeavesStore old (record { store = old.store; running = None }) d → LeavesOneOfStores z later d
   one_cancelled why refused old same d left image is = ⊎_elim
       (λ reads. second_of image (subst (λ (x : StoredStore). StoreReads image x) same reads))
       (λ reads. third_of image (subst (λ (x : StoredStore). StoreReads image x) (ap (λ (x : StoredStore). at_rest x.store) same ∙ ends_refused why refused) reads))
@@ -76,20 +76,20 @@ module _ (blocks : ℕ) (z : StoredStore) (v : StoredVolume) (date : ℕ) (new :
 
   -- ---- at each moment
 
-  pub begin_moments : (start end : Log) → Runs StoreSide (LeavesStore z (dated z.store date)) start end → Runs StoreSide (LeavesOneOf z later) start end
-  begin_moments start end runs = Runs-weaker StoreSide (LeavesStore z (dated z.store date)) (LeavesOneOf z later) start end one_begun runs
+  pub begin_moments : (start end : Log) → Runs StoreSide (LeavesStore z (dated z.store date)) start end → Runs StoreSide (LeavesOneOfStores z later) start end
+  begin_moments start end runs = Runs-weaker StoreSide (LeavesStore z (dated z.store date)) (LeavesOneOfStores z later) start end one_begun runs
 
   pub finish_moments : (start mid end : Log) → Runs StoreSide (LeavesStore z (dated z.store date)) start mid
-      → Runs StoreSide (LeavesStore (dated z.store date) (finishes_as new blocks z.store v.volume date)) mid end → Runs StoreSide (LeavesOneOf z later) start end
-  finish_moments start mid end first second = Runs-then StoreSide (LeavesOneOf z later) start mid end (begin_moments start mid first)
-      (Runs-weaker StoreSide (LeavesStore (dated z.store date) (finishes_as new blocks z.store v.volume date)) (LeavesOneOf z later) mid end one_finished second)
+      → Runs StoreSide (LeavesStore (dated z.store date) (finishes_as new blocks z.store v.volume date)) mid end → Runs StoreSide (LeavesOneOfStores z later) start end
+  finish_moments start mid end first second = Runs-then StoreSide (LeavesOneOfStores z later) start mid end (begin_moments start mid first)
+      (Runs-weaker StoreSide (LeavesStore (dated z.store date) (finishes_as new blocks z.store v.volume date)) (LeavesOneOfStores z later) mid end one_finished second)
 
   pub cancel_moments : (start mid last end : Log) (old : StoredStore) (why : Refused) → Runs StoreSide (LeavesStore z (dated z.store date)) start mid
       → Runs StoreSide (LeavesStore (dated z.store date) (finishes_as new blocks z.store v.volume date)) mid last
       → AnswersCopy new blocks z.store v date old (Err (RefusedFor why)) → Runs StoreSide (LeavesStore old (record { store = old.store; running = None })) last end
-      → Runs StoreSide (LeavesOneOf z later) start end
-  cancel_moments start mid last end old why first second answers third = Runs-then StoreSide (LeavesOneOf z later) start last end (finish_moments start mid last first second)
-      (Runs-weaker StoreSide (LeavesStore old (record { store = old.store; running = None })) (LeavesOneOf z later) last end (one_cancelled why answers.0 old answers.1) third)
+      → Runs StoreSide (LeavesOneOfStores z later) start end
+  cancel_moments start mid last end old why first second answers third = Runs-then StoreSide (LeavesOneOfStores z later) start last end (finish_moments start mid last first second)
+      (Runs-weaker StoreSide (LeavesStore old (record { store = old.store; running = None })) (LeavesOneOfStores z later) last end (one_cancelled why answers.0 old answers.1) third)
 
   -- ---- the answer
 

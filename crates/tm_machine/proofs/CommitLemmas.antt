@@ -14,45 +14,44 @@ use Rattle.tm_tree.specs.declared.change.Change.{Change}
 use Rattle.tm_volume.specs.Stored.{StoredVolume}
 use Rattle.tm_machine.specs.Changing.{change_of}
 use Rattle.tm_machine.specs.States.{State, Stored, kept, opened}
-use Rattle.tm_machine.specs.Steps as steps
-use Rattle.tm_machine.specs.Steps.{after, after_by, left, left_by, other_after, other_left, refusal, start_tests, step}
-use Rattle.tm_machine.specs.Commits.{last_from, opening, other_commits, other_undone, ending, undone, undone_by, commits_by, unless_refused, commits_of, LastOfOpening}
+use Rattle.tm_machine.specs.Steps.{after, after_by, after_refused, after_refused_by, changeless_after, changeless_after_refused, ended, refusal, start_tests, step, unless_refused}
+use Rattle.tm_machine.specs.Commits.{last_from, opening, changeless_commits, changeless_undone, ending, undone, undone_by, done_by, commits_of, LastOfOpening}
 
 pub last_from-append : {A : Type 0} (x : A) (xs ys : List A) → last_from x (xs ++ ys) ≡ last_from (last_from x xs) ys
 last_from-append x [] ys = refl
 last_from-append x (y ∷ xs) ys = last_from-append y xs ys
 
-other_last : (s : State) (l : Line) → last_from (kept s) (other_commits s l) ≡ kept (other_after s l)
-other_last s (line.NewVolume name id events) = refl
-other_last s (line.NewStore machine) = refl
-other_last s line.StartBackupBlock = refl
-other_last s _ = refl
+changeless_last : (s : State) (l : Line) → last_from (kept s) (changeless_commits s l) ≡ kept (changeless_after s l)
+changeless_last s (line.NewVolume name id events) = refl
+changeless_last s (line.NewStore machine) = refl
+changeless_last s line.StartBackupBlock = refl
+changeless_last s _ = refl
 
-made_last : (s : State) (l : Line) (c : Option Change) → last_from (kept s) (commits_by s l c) ≡ kept (after_by s l c)
+made_last : (s : State) (l : Line) (c : Option Change) → last_from (kept s) (done_by s l c) ≡ kept (after_by s l c)
 made_last s l (Some c) = refl
-made_last s l None = other_last s l
+made_last s l None = changeless_last s l
 
-ending_last : (why : Option Refused) (s : State) → last_from (kept s) (ending why s) ≡ kept (steps.ended why s)
+ending_last : (why : Option Refused) (s : State) → last_from (kept s) (ending why s) ≡ kept (ended why s)
 ending_last None s = refl
 ending_last (Some why) s = refl
 
-pub other_undone_last : (s : State) (l : Line) → last_from (kept s) (other_undone s l) ≡ kept (other_left s l)
-other_undone_last s line.StartBackupBlock = ending_last (first_refused (start_tests s)) s
-other_undone_last s _ = refl
+pub changeless_undone_last : (s : State) (l : Line) → last_from (kept s) (changeless_undone s l) ≡ kept (changeless_after_refused s l)
+changeless_undone_last s line.StartBackupBlock = ending_last (first_refused (start_tests s)) s
+changeless_undone_last s _ = refl
 
-undone_last : (s : State) (l : Line) (c : Option Change) → last_from (kept s) (undone_by s l c) ≡ kept (left_by s l c)
+undone_last : (s : State) (l : Line) (c : Option Change) → last_from (kept s) (undone_by s l c) ≡ kept (after_refused_by s l c)
 undone_last s l (Some c) = refl
-undone_last s l None = other_undone_last s l
+undone_last s l None = changeless_undone_last s l
 
-pub unless_last : (why : Option Refused) (s left new : State) (undone made : List Stored) → last_from (kept s) undone ≡ kept left → last_from (kept s) made ≡ kept new
-    → last_from (kept s) (unless_refused why undone made) ≡ kept (steps.unless_refused why left new)
-unless_last None s left new undone made g h = h
-unless_last (Some why) s left new undone made g h = g
+pub unless_last : (why : Option Refused) (s refused new : State) (undone made : List Stored) → last_from (kept s) undone ≡ kept refused → last_from (kept s) made ≡ kept new
+    → last_from (kept s) (unless_refused why undone made) ≡ kept (unless_refused why refused new)
+unless_last None s refused new undone made g h = h
+unless_last (Some why) s refused new undone made g h = g
 
 -- the last commit of a line of the plain machine is what is kept of the state after it
 pub last_of_line : (s : State) (l : Line) → last_from (kept s) (commits_of s l) ≡ kept (step s l)
 last_of_line s l =
-    unless_last (refusal s l) s (left s l) (after s l) (undone s l) (commits_by s l (change_of l)) (undone_last s l (change_of l)) (made_last s l (change_of l))
+    unless_last (refusal s l) s (after_refused s l) (after s l) (undone s l) (done_by s l (change_of l)) (undone_last s l (change_of l)) (made_last s l (change_of l))
 
 abbrev with_volume : StoredVolume → Option StoredStore → Stored
 with_volume v z = record { volume = Some v; store = z }

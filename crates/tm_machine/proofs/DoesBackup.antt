@@ -7,7 +7,7 @@ use Rattle.tm_base.specs.declared.refused.Refused.TheVariants.{NoStore, NoVolume
 use Rattle.tm_reply.specs.declared.row.ReplyRow.{ReplyRow}
 use Rattle.tm_text.specs.declared.line.Line.TheVariants as line
 use Rattle.tm_tree.specs.Refusing.{first_refused}
-use Rattle.tm_store_records.specs.Held.{Held, store_on, stored_on as store_stored_on}
+use Rattle.tm_store_records.specs.Held.{Held, store_on, store_stored_on}
 use Rattle.tm_store_records.specs.States.{StoredStore}
 use Rattle.tm_image.specs.Seen.{Stands}
 use Rattle.tm_volume.specs.Reads.{LeavesSide}
@@ -23,7 +23,7 @@ use Rattle.tm_world.proofs.Going.{Passes-none}
 use Rattle.tm_world.proofs.Pairs.{Runs-ends}
 use Rattle.tm_machine.specs.Allowed.{Did, MayBackUp, backup_effect}
 use Rattle.tm_machine.specs.Backups.{DoesBackup, copy_of}
-use Rattle.tm_machine.specs.Session.{state_on, Standing, IsIdle, IsOpen, IfReplied, other_effect, Replies, Does}
+use Rattle.tm_machine.specs.Session.{state_on, Standing, IsIdle, IsOpen, IfReplied, changeless_effect, Replies, Does}
 use Rattle.tm_machine.specs.States.{State, store_in}
 use Rattle.tm_machine.specs.Steps.{backup_tests, ended, start_tests, walks_tests}
 use Rattle.tm_machine.proofs.CopyLemmas.{first_some}
@@ -40,14 +40,14 @@ replied (Err (Fault side)) P Q f h = tt
 replied (Err Memory) P Q f h = tt
 
 -- the plain machine's backup copies the labelled copy
-plain_effect : (n k : ℕ) (v : StoredVolume) (z : StoredStore) (moment : Option ℕ) → other_effect (state n k (Some v) (Some z) moment) line.StartBackupBlock ≡ backup_effect (copy_of z.store v.volume) (state n k (Some v) (Some z) moment)
+plain_effect : (n k : ℕ) (v : StoredVolume) (z : StoredStore) (moment : Option ℕ) → changeless_effect (state n k (Some v) (Some z) moment) line.StartBackupBlock ≡ backup_effect (copy_of z.store v.volume) (state n k (Some v) (Some z) moment)
 plain_effect n k v z None = refl
 plain_effect n k v z (Some date) = refl
 
 -- a backup that doesn't start changes nothing
 does_start : (n k : ℕ) (v : VolumeSeen) (h : Held) (moment : Option ℕ) (start : Log) (why : Refused) → let m = seen n k (Some v) (Some h) moment in
     first_refused (backup_tests (store_on h (disk StoreSide (now start)).bytes) moment) ≡ Some why → Standing m (now start)
-    → Does (other_effect (state_on m (now start)) line.StartBackupBlock) m m start start (Err (RefusedFor why))
+    → Does (changeless_effect (state_on m (now start)) line.StartBackupBlock) m m start start (Err (RefusedFor why))
 does_start n k v h moment start why e standing =
     let s = state_on (seen n k (Some v) (Some h) moment) (now start) in
     record {
@@ -63,7 +63,7 @@ refused_start n k v h moment start why e standing =
     let whole = stored_on v (disk VolumeSide (now start)).bytes in
     let before = store_stored_on h (disk StoreSide (now start)).bytes in
     record {
-      effect = other_effect (state n k (Some whole) (Some before) moment) line.StartBackupBlock;
+      effect = changeless_effect (state n k (Some whole) (Some before) moment) line.StartBackupBlock;
       may = record { tree = copy_of before.store whole.volume; is = plain_effect n k whole before moment; exact = λ fits. refl };
       does = does_start n k v h moment start why e standing;
     }
@@ -132,7 +132,7 @@ module _ (n k : ℕ) (v w : VolumeSeen) (h g : Held) (date : ℕ) (volume : w �
 pub no_volume : (n k : ℕ) (store : Option Held) (moment : Option ℕ) (start : Log) → let m = seen n k None store moment in
     Standing m (now start) → Did (MayBackUp (state_on m (now start))) m m start start (Err (RefusedFor NoVolume))
 no_volume n k store moment start standing = record {
-  effect = other_effect (state_on (seen n k None store moment) (now start)) line.StartBackupBlock;
+  effect = changeless_effect (state_on (seen n k None store moment) (now start)) line.StartBackupBlock;
   may = record { tree = []; is = refl; exact = λ fits. refl };
   does = record { replies = (refl, refl); standing = standing; moments = Passes-none start _ };
 }
@@ -140,7 +140,7 @@ no_volume n k store moment start standing = record {
 pub no_store : (n k : ℕ) (v : VolumeSeen) (moment : Option ℕ) (start : Log) → let m = seen n k (Some v) None moment in
     Standing m (now start) → Did (MayBackUp (state_on m (now start))) m m start start (Err (RefusedFor NoStore))
 no_store n k v moment start standing = record {
-  effect = other_effect (state_on (seen n k (Some v) None moment) (now start)) line.StartBackupBlock;
+  effect = changeless_effect (state_on (seen n k (Some v) None moment) (now start)) line.StartBackupBlock;
   may = record { tree = []; is = refl; exact = λ fits. refl };
   does = record { replies = (refl, refl); standing = standing; moments = Passes-none start _ };
 }

@@ -13,12 +13,12 @@ use Rattle.tm_tree.proofs.Passes.{none_before, none_after}
 use Rattle.tm_fit.specs.Fit.{Fits}
 use Rattle.tm_fit.specs.Laws.{ChangeFits, BackupFits, NewVolumeFits, NewVolumeAloneFits, NewStoreFits, LaterGenerationFits}
 use Rattle.tm_store_records.specs.States.{StoredStore}
-use Rattle.tm_volume.specs.Changes as volume
+use Rattle.tm_changes.specs.Changes as volume
 use Rattle.tm_volume.specs.Stored.{StoredVolume}
 use Rattle.tm_machine.specs.Changing.{change_of}
 use Rattle.tm_machine.specs.Fitting.{PairFits}
 use Rattle.tm_machine.specs.States.{State, store_in}
-use Rattle.tm_machine.specs.Steps.{after, after_by, at_rest, backed, changed, change_tests, ended, is_taken, left, left_by, new_volume_tests, other_after, other_left, other_tests, refusal, start_tests, step, tests_by, unless_refused}
+use Rattle.tm_machine.specs.Steps.{after, after_by, at_rest, backed, changed, change_tests, ended, is_taken, after_refused, after_refused_by, new_volume_tests, changeless_after, changeless_after_refused, changeless_tests, refusal, start_tests, step, tests_by, unless_refused}
 
 -- the laws on volumes and stores
 pub record FitLaws : Type 0 where
@@ -38,13 +38,13 @@ pub ended_fits : (why : Option Refused) (s : State) → PairFits s → PairFits 
 ended_fits None s h = rested (option_map (λ v. v.volume) s.volume) s.store h
 ended_fits (Some why) s h = h
 
-left_fits : (s : State) (l : Line) → PairFits s → PairFits (other_left s l)
-left_fits s line.StartBackupBlock h = ended_fits (first_refused (start_tests s)) s h
-left_fits s _ h = h
+changeless_after_refused_fits : (s : State) (l : Line) → PairFits s → PairFits (changeless_after_refused s l)
+changeless_after_refused_fits s line.StartBackupBlock h = ended_fits (first_refused (start_tests s)) s h
+changeless_after_refused_fits s _ h = h
 
-left_by_fits : (s : State) (l : Line) (c : Option Change) → PairFits s → PairFits (left_by s l c)
-left_by_fits s l (Some c) h = h
-left_by_fits s l None h = left_fits s l h
+after_refused_fits : (s : State) (l : Line) (c : Option Change) → PairFits s → PairFits (after_refused_by s l c)
+after_refused_fits s l (Some c) h = h
+after_refused_fits s l None h = changeless_after_refused_fits s l h
 
 module _ (laws : FitLaws) where
   changed_fits : (blocks : ℕ) (v : StoredVolume) (store : Option StoreState) (c : Change) (moment : Option ℕ) → first_refused (volume.change_tests blocks v c moment) ≡ None
@@ -86,19 +86,19 @@ module _ (laws : FitLaws) where
       let taken = none_after (needs_moment s.moment) ((is_taken (store_in s.store) id, IdTaken) ∷ []) dated in
       (not_first (is_taken (store_in s.store) id) IdTaken [] taken).0
 
-  other_fits : (s : State) (l : Line) → first_refused (other_tests s l) ≡ None → PairFits s → PairFits (other_after s l)
-  other_fits s (line.NewVolume name id events) none h = volume_fits (store_in s.store) name id events (unwrap_or s.moment 0) (free_id s id none)
-  other_fits s (line.NewStore machine) none h = store_fits s.volume s.store machine (not_first (is_some s.store) Already ((nat_lt s.store_blocks 8, Small) ∷ []) none).0 h
-  other_fits s line.StartBackupBlock none h = backed_fits s.volume s.store s.moment h
-  other_fits s _ none h = h
+  changeless_fits : (s : State) (l : Line) → first_refused (changeless_tests s l) ≡ None → PairFits s → PairFits (changeless_after s l)
+  changeless_fits s (line.NewVolume name id events) none h = volume_fits (store_in s.store) name id events (unwrap_or s.moment 0) (free_id s id none)
+  changeless_fits s (line.NewStore machine) none h = store_fits s.volume s.store machine (not_first (is_some s.store) Already ((nat_lt s.store_blocks 8, Small) ∷ []) none).0 h
+  changeless_fits s line.StartBackupBlock none h = backed_fits s.volume s.store s.moment h
+  changeless_fits s _ none h = h
 
   pub after_fits : (s : State) (l : Line) (c : Option Change) → first_refused (tests_by s l c) ≡ None → PairFits s → PairFits (after_by s l c)
   after_fits s l (Some c) none h = change_fits s c s.volume refl none h
-  after_fits s l None none h = other_fits s l none h
+  after_fits s l None none h = changeless_fits s l none h
 
-  by_refusal : (s : State) (l : Line) (why : Option Refused) → refusal s l ≡ why → PairFits s → PairFits (unless_refused why (left s l) (after s l))
+  by_refusal : (s : State) (l : Line) (why : Option Refused) → refusal s l ≡ why → PairFits s → PairFits (unless_refused why (after_refused s l) (after s l))
   by_refusal s l None e h = after_fits s l (change_of l) e h
-  by_refusal s l (Some why) e h = left_by_fits s l (change_of l) h
+  by_refusal s l (Some why) e h = after_refused_fits s l (change_of l) h
 
   pub step_fits : (s : State) (l : Line) → PairFits s → PairFits (step s l)
   step_fits s l h = by_refusal s l (refusal s l) refl h

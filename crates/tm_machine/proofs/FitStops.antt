@@ -13,11 +13,11 @@ use Rattle.tm_fit.specs.Fit.{Fits}
 use Rattle.tm_store_records.specs.States.{StoredStore}
 use Rattle.tm_volume.specs.Stored.{StoredVolume, reopened}
 use Rattle.tm_machine.specs.Changing.{change_of}
-use Rattle.tm_machine.specs.Commits.{commits, commits_by, commits_of, ending, last_from, opening, opening_of, other_commits, other_undone, started, undone_by, unless_refused}
+use Rattle.tm_machine.specs.Commits.{commits, done_by, commits_of, ending, last_from, opening, opening_of, changeless_commits, changeless_undone, started, undone_by}
 use Rattle.tm_machine.specs.Fitting.{FitsReopened, PairFits}
 use Rattle.tm_machine.specs.Histories.{HeldFits, commits_in, plain_of}
 use Rattle.tm_machine.specs.States.{State, Stored, opened, store_in}
-use Rattle.tm_machine.specs.Steps.{begun, other_after, refusal, start_tests, step, tests_by}
+use Rattle.tm_machine.specs.Steps.{begun, changeless_after, refusal, start_tests, step, tests_by, unless_refused}
 use Rattle.tm_machine.proofs.FitLemmas.{FitLaws, after_fits, ended_fits, step_fits}
 use Rattle.tm_machine.proofs.PlainLemmas.{plain_commits}
 
@@ -64,27 +64,27 @@ ending_fits : (why : Option Refused) (s : State) → PairFits s → All StoredFi
 ending_fits None s h = two (started s) _ (started_fits s h) (ended_fits None s h)
 ending_fits (Some why) s h = All-nil StoredFits
 
-other_undone_fits : (s : State) (l : Line) → PairFits s → All StoredFits (other_undone s l)
-other_undone_fits s line.StartBackupBlock h = ending_fits (first_refused (start_tests s)) s h
-other_undone_fits s _ h = All-nil StoredFits
+changeless_undone_fits : (s : State) (l : Line) → PairFits s → All StoredFits (changeless_undone s l)
+changeless_undone_fits s line.StartBackupBlock h = ending_fits (first_refused (start_tests s)) s h
+changeless_undone_fits s _ h = All-nil StoredFits
 
 undone_fits : (s : State) (l : Line) (c : Option Change) → PairFits s → All StoredFits (undone_by s l c)
 undone_fits s l (Some c) h = All-nil StoredFits
-undone_fits s l None h = other_undone_fits s l h
+undone_fits s l None h = changeless_undone_fits s l h
 
-other_made_fits : (s : State) (l : Line) → PairFits s → PairFits (other_after s l) → All StoredFits (other_commits s l)
-other_made_fits s (line.NewVolume name id events) h new = one _ new
-other_made_fits s (line.NewStore machine) h new = one _ new
-other_made_fits s line.StartBackupBlock h new = two (started s) _ (started_fits s h) new
-other_made_fits s _ h new = All-nil StoredFits
+changeless_made_fits : (s : State) (l : Line) → PairFits s → PairFits (changeless_after s l) → All StoredFits (changeless_commits s l)
+changeless_made_fits s (line.NewVolume name id events) h new = one _ new
+changeless_made_fits s (line.NewStore machine) h new = one _ new
+changeless_made_fits s line.StartBackupBlock h new = two (started s) _ (started_fits s h) new
+changeless_made_fits s _ h new = All-nil StoredFits
 
 module _ (laws : FitLaws) where
-  made_fits : (s : State) (l : Line) (c : Option Change) → first_refused (tests_by s l c) ≡ None → PairFits s → All StoredFits (commits_by s l c)
+  made_fits : (s : State) (l : Line) (c : Option Change) → first_refused (tests_by s l c) ≡ None → PairFits s → All StoredFits (done_by s l c)
   made_fits s l (Some c) none h = one _ (after_fits laws s l (Some c) none h)
-  made_fits s l None none h = other_made_fits s l h (after_fits laws s l None none h)
+  made_fits s l None none h = changeless_made_fits s l h (after_fits laws s l None none h)
 
   by_refusal : (s : State) (l : Line) (why : Option Refused) → refusal s l ≡ why → PairFits s
-      → All StoredFits (unless_refused why (undone_by s l (change_of l)) (commits_by s l (change_of l)))
+      → All StoredFits (unless_refused why (undone_by s l (change_of l)) (done_by s l (change_of l)))
   by_refusal s l None e h = made_fits s l (change_of l) e h
   by_refusal s l (Some why) e h = undone_fits s l (change_of l) h
 

@@ -15,3 +15,4 @@ pub mod OpeningLemmas
 pub mod ListingLemmas
 pub mod Allowing
 pub mod PlainLemmas
+pub mod Exits

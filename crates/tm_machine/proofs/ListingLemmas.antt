@@ -18,7 +18,7 @@ use Rattle.tm_base.specs.declared.refused.Refused.{Refused}
 use Rattle.tm_base.specs.declared.refused.Refused.TheVariants.{NotFolder}
 use Rattle.tm_items.specs.Computed.{tree_of, items_of, placed_rows}
 use Rattle.tm_items.proofs.Finding.{last_apart}
-use Rattle.tm_base.specs.declared.refused.Side.{Side as Named}
+use Rattle.tm_base.specs.declared.refused.Side.{Side as RefusedSide}
 use Rattle.tm_reply.specs.declared.row.ListedName.{ListedName}
 use Rattle.tm_reply.specs.declared.row.ListedName.TheVariants as called
 use Rattle.tm_reply.specs.declared.row.ReplyRow.{ReplyRow}
@@ -49,6 +49,7 @@ use Rattle.tm_machine.specs.Answers.{AnswersQuery, AnswersReading, IsRow}
 use Rattle.tm_tree.specs.Changes.{item_tests}
 use Rattle.tm_machine.specs.Steps.{content_tests}
 use Rattle.tm_machine.proofs.Reading.{walk_stands, list_missing, lists, contents_missing, content_folder, tells}
+use Rattle.tm_base.proofs.Facts.{both_true}
 
 -- ---- an item by its record
 
@@ -99,10 +100,6 @@ rows_found t h i d below =
     let row : Names × Item = get_or t i d in
     lookup-from_Contains (eq_by_cmp_equiv path_total) row.0 row.1 t (IsDistinct-from_sorted path_cmp (keys_of t) h) (i, below, get_or_default t i row d below)
 
-both : (a b : Bool) → (a && b) ≡ true → (a ≡ true) × (b ≡ true)
-both true b h = (refl, h)
-both false b h = cc
-
 not_true : (b : Bool) → not b ≡ true → b ≡ false
 not_true true h = cc
 not_true false h = refl
@@ -112,7 +109,7 @@ same_paths p q h = (pointwise_decides (pointwise_decides unsigned_Decides) p q).
 
 child_path : (p q : Names) → is_child p q ≡ true → q ≡ p ++ last_of q ∷ []
 child_path p q h =
-    let parts = both (not (is_root q)) (same_path (parent_of q) p) h in
+    let parts = both_true (not (is_root q)) (same_path (parent_of q) p) h in
     last_apart q (not_true (is_root q) parts.0) ∙ ap (λ (x : Names). x ++ last_of q ∷ []) (same_paths (parent_of q) p parts.1)
 
 module _ (t : Tree) (in_order : InOrder t) (p : Names) (folder : Item) (stands : walk t p ≡ Ok folder) (is : is_folder folder ≡ true) where
@@ -166,7 +163,7 @@ finds_refused way (fault.Refused x) e r finds here is = cc
 finds_refused way (fault.Fault side) e r finds here is = finds
 finds_refused way fault.Memory e r finds here is = cc
 
-pub finds_no_fault : (way : Result Item Refused) (why : LineFault) (side : Named) → FindsRow way (Err why) → why ≡ fault.Fault side → ⊥
+pub finds_no_fault : (way : Result Item Refused) (why : LineFault) (side : RefusedSide) → FindsRow way (Err why) → why ≡ fault.Fault side → ⊥
 finds_no_fault way (fault.Refused x) side finds is = cc
 finds_no_fault way (fault.Fault other) side finds is = finds
 finds_no_fault way fault.Memory side finds is = cc
@@ -343,7 +340,7 @@ listing_missing t p (fault.Refused why) h = list_missing t p (fault.Refused why)
 listing_missing t p (fault.Fault side) h = h
 listing_missing t p fault.Memory h = tt
 
-pub listing_failed : (t : Tree) (p : Names) (e : Item) (why : LineFault) → walk t p ≡ Ok e → ((r : Refused) → why ≡ fault.Refused r → ⊥) → ((side : Named) → why ≡ fault.Fault side → ⊥)
+pub listing_failed : (t : Tree) (p : Names) (e : Item) (why : LineFault) → walk t p ≡ Ok e → ((r : Refused) → why ≡ fault.Refused r → ⊥) → ((side : RefusedSide) → why ≡ fault.Fault side → ⊥)
     → AnswersQuery (item_tests t p) (list_rows t p) (Err why)
 listing_failed t p e (fault.Refused r) here no_refusal no_fault = absurd (no_refusal r refl)
 listing_failed t p e (fault.Fault side) here no_refusal no_fault = no_fault side refl

@@ -1,8 +1,9 @@
 -- Opening: what an image reads as, and the commit that begins a generation.
-use Rattle.std.proofs.Common.{◌≡◌, ◌⊎◌, inl, ⊎_elim, ℕ, ◌+◌, ◌-◌, ◌≤◌, ◌<◌, ◌==◌, Bool, true, false, if◌then◌else◌, Option, Some, None, List, [], ◌∷◌, refl, sym, ◌∙◌, ap, subst, arith, ◌^◌}
+use Rattle.std.proofs.Common.{if◌then◌else◌, ◌≡◌, ◌⊎◌, inl, ⊎_elim, ℕ, ◌+◌, ◌-◌, ◌≤◌, ◌<◌, ◌==◌, Bool, true, false, Option, Some, None, List, [], ◌∷◌, refl, sym, ◌∙◌, ap, subst, arith, ◌^◌}
 use Rattle.std.specs.Option.{option_map}
 use Rattle.std.proofs.lemmas.Bool.Decides.{nat_tests}
-use Rattle.tm_base.specs.declared.refused.Side.{Side as Named}
+use Rattle.tm_base.specs.declared.refused.Side.{Side as RefusedSide}
+use Rattle.tm_base.specs.Limits.{max_blocks}
 use Rattle.tm_base.specs.declared.refused.Side.TheVariants as named
 use Rattle.tm_gate.specs.Load.{IsUnformatted}
 use Rattle.tm_volume.specs.Answers.{IsSpent, FailsVolume}
@@ -17,8 +18,8 @@ use Rattle.tm_world.specs.Torn.{as_read}
 use Rattle.tm_world.specs.declared.cause.Cause.{Cause}
 use Rattle.tm_world.specs.declared.world.Side.TheVariants.{Volume as VolumeSide, Store as StoreSide}
 use Rattle.tm_world.proofs.Going.{Passes-now, Passes-then, Passes-weaker, Runs-none, Runs-stays, Runs-then, Runs-weaker}
-use Rattle.tm_store.specs.Sides.{SideReads as StoreSideReads, LeavesSide as LeavesStoreSide, OneSide as OneStoreSide, IsUnformattedImage as IsUnformattedStore}
-use Rattle.tm_store_records.specs.Held.{Held, stored_on as store_stored_on}
+use Rattle.tm_store.specs.Sides.{StoreSideReads, LeavesStoreSide, OneStoreSide, IsUnformattedStore}
+use Rattle.tm_store_records.specs.Held.{Held, store_stored_on}
 use Rattle.tm_store_records.specs.States.{StoredStore, StoreReads, StoreFails}
 use Rattle.tm_machine.specs.Commits.{opening, opening_of}
 use Rattle.tm_machine.specs.States.{Stored, opened}
@@ -39,15 +40,15 @@ read_now : (d : Disk) → IsLeft d (as_read d)
 read_now d = record { count = refl; stable = λ b h. refl }
 
 -- a side of so few blocks
-pub small_side : (d : Disk) (count blocks : ℕ) → d.count ≡ count → count ≡ blocks → blocks ≤ 262144 → d.count ≤ 262144
+pub small_side : (d : Disk) (count blocks : ℕ) → d.count ≡ count → count ≡ blocks → blocks ≤ max_blocks → d.count ≤ max_blocks
 small_side d count blocks counts is small = omega (arith, counts, is, small)
 
 -- a volume that stands is the one that the disk reads as
-pub same_volume : OneSide → StandsLeaves → (m : VolumeSeen) (n : ℕ) (d : Disk) (r : Option StoredVolume) → d.count ≤ 262144 → IsKept m → IsReady m n → StandsOn m d → SideReads (as_read d) r → Some (stored_on m d.bytes) ≡ r
+pub same_volume : OneSide → StandsLeaves → (m : VolumeSeen) (n : ℕ) (d : Disk) (r : Option StoredVolume) → d.count ≤ max_blocks → IsKept m → IsReady m n → StandsOn m d → SideReads (as_read d) r → Some (stored_on m d.bytes) ≡ r
 same_volume one_side stands_leaves m n d r small sound ready stands reads =
     one_side (as_read d) (Some (stored_on m d.bytes)) r small (stands_leaves m n d sound ready stands (as_read d) (read_now d)) reads
 
-pub no_volume : OneSide → (d : Disk) (r : Option StoredVolume) → d.count ≤ 262144 → IsUnformattedImage (as_read d) → SideReads (as_read d) r → None ≡ r
+pub no_volume : OneSide → (d : Disk) (r : Option StoredVolume) → d.count ≤ max_blocks → IsUnformattedImage (as_read d) → SideReads (as_read d) r → None ≡ r
 no_volume one_side d r small unformatted reads = one_side (as_read d) None r small unformatted reads
 
 pub unformatted_now : (d : Disk) (blocks : ℕ) → d.count ≡ blocks → (blocks < 3) ⊎ ((named : ℕ) × IsUnformatted d.bytes named) → IsUnformattedImage (as_read d)
@@ -94,7 +95,7 @@ loads_volume old mid new r s stable reads steps is runs =
     Runs-then VolumeSide (LeavesEither r (option_map reopened r)) old mid new (loads_nothing old mid r (option_map reopened r) stable reads steps)
     (subst (λ (x : Option StoredVolume). Runs VolumeSide (LeavesEither x (option_map reopened x)) mid new) is runs)
 
-pub opened_as : OneSide → StandsLeaves → (m : VolumeSeen) (n : ℕ) (old mid : Log) (r : Option StoredVolume) → (disk VolumeSide (now old)).count ≤ 262144 → Steps old mid (now old) → IsKept m → IsReady m n → StandsOn m (disk VolumeSide (now old))
+pub opened_as : OneSide → StandsLeaves → (m : VolumeSeen) (n : ℕ) (old mid : Log) (r : Option StoredVolume) → (disk VolumeSide (now old)).count ≤ max_blocks → Steps old mid (now old) → IsKept m → IsReady m n → StandsOn m (disk VolumeSide (now old))
     → SideReads (as_read (disk VolumeSide (now old))) r → Some (stored_on m (disk VolumeSide (now mid)).bytes) ≡ r
 opened_as one_side stands_leaves m n old mid r small steps sound ready stands reads =
     ap (λ (o : Outside). Some (stored_on m (disk VolumeSide o).bytes)) steps.ends ∙ same_volume one_side stands_leaves m n (disk VolumeSide (now old)) r small sound ready stands reads
@@ -196,21 +197,21 @@ opened_state n k v h r mid new ends volume_is store_is = λ i. record {
 }
 
 -- an image that is bad: the volume's, or the store's, which the opening of the volume left as it was
-pub bad_volume : (side : Named) (cause : Cause) (place n k : ℕ) (told : Type 0) (o : Outside)
+pub bad_volume : (side : RefusedSide) (cause : Cause) (place n k : ℕ) (told : Type 0) (o : Outside)
     → (side ≡ named.Volume) × (3 ≤ n) × (told → FailsVolume (as_read (disk VolumeSide o)) cause place) → IsBadSide side cause place n k told o
-bad_volume side cause place n k told o h = subst (λ (x : Named). IsBadSide x cause place n k told o) (sym h.0) (h.1, h.2)
+bad_volume side cause place n k told o h = subst (λ (x : RefusedSide). IsBadSide x cause place n k told o) (sym h.0) (h.1, h.2)
 
-pub bad_store : (side : Named) (cause : Cause) (place n k : ℕ) (told : Type 0) (o mid : Outside) → (told → disk StoreSide mid ≡ disk StoreSide o) → (told → CanOpen (as_read (disk VolumeSide o)))
+pub bad_store : (side : RefusedSide) (cause : Cause) (place n k : ℕ) (told : Type 0) (o mid : Outside) → (told → disk StoreSide mid ≡ disk StoreSide o) → (told → CanOpen (as_read (disk VolumeSide o)))
     → (side ≡ named.Store) × (3 ≤ k) × (told → StoreFails (as_read (disk StoreSide mid)) cause place) → IsBadSide side cause place n k told o
 bad_store side cause place n k told o mid same opens h =
-    subst (λ (x : Named). IsBadSide x cause place n k told o) (sym h.0)
+    subst (λ (x : RefusedSide). IsBadSide x cause place n k told o) (sym h.0)
     (h.1, λ t. (opens t, subst (λ (d : Disk). StoreFails (as_read d) cause place) (same t) (h.2 t)))
 
 -- the store that was read is the one that the disk reads as
-pub same_store : OneStoreSide → (h : Held) (d : Disk) (r : Option StoredStore) → d.count ≤ 262144 → StoreReads (as_read d) (store_stored_on h d.bytes) → StoreSideReads (as_read d) r → Some (store_stored_on h d.bytes) ≡ r
+pub same_store : OneStoreSide → (h : Held) (d : Disk) (r : Option StoredStore) → d.count ≤ max_blocks → StoreReads (as_read d) (store_stored_on h d.bytes) → StoreSideReads (as_read d) r → Some (store_stored_on h d.bytes) ≡ r
 same_store one_side h d r small is reads = one_side (as_read d) (Some (store_stored_on h d.bytes)) r small is reads
 
-pub no_store : OneStoreSide → (d : Disk) (r : Option StoredStore) → d.count ≤ 262144 → IsUnformattedStore (as_read d) → StoreSideReads (as_read d) r → None ≡ r
+pub no_store : OneStoreSide → (d : Disk) (r : Option StoredStore) → d.count ≤ max_blocks → IsUnformattedStore (as_read d) → StoreSideReads (as_read d) r → None ≡ r
 no_store one_side d r small unformatted reads = one_side (as_read d) None r small unformatted reads
 
 pub store_opens : (h : Held) (d : Disk) → StoreReads (as_read d) (store_stored_on h d.bytes) → CanOpenStore (as_read d)
@@ -245,7 +246,7 @@ begun_then v old mid new synced reads runs steps =
     (λ image left. inl (stable_leaves (disk VolumeSide (now old)) v synced.volume_stable reads image left)) steps
 
 -- a volume that stands was not unformatted
-pub stands_formatted : OneSide → StandsLeaves → (m : VolumeSeen) (n : ℕ) (old mid : Log) → (disk VolumeSide (now old)).count ≤ 262144 → Steps old mid (now old) → IsKept m → IsReady m n
+pub stands_formatted : OneSide → StandsLeaves → (m : VolumeSeen) (n : ℕ) (old mid : Log) → (disk VolumeSide (now old)).count ≤ max_blocks → Steps old mid (now old) → IsKept m → IsReady m n
     → StandsOn m (disk VolumeSide (now old)) → SideReads (as_read (disk VolumeSide (now old))) None → ⊥
 stands_formatted one_side stands_leaves m n old mid small steps sound ready stands reads =
     none_some (stored_on m (disk VolumeSide (now mid)).bytes) (sym (opened_as one_side stands_leaves m n old mid None small steps sound ready stands reads))

@@ -8,7 +8,7 @@ use Rattle.tm_text.specs.declared.line.Line.TheVariants as line
 use Rattle.tm_tree.specs.declared.change.Change.{Change}
 use Rattle.tm_tree.specs.Copies.{LabelledTree}
 use Rattle.tm_tree.specs.Refusing.{first_refused}
-use Rattle.tm_machine.specs.Allowed.{MayDo, MayDoBy, MayDoOther, after_of, backup_effect, commits_by, reply_of}
+use Rattle.tm_machine.specs.Allowed.{MayDo, MayDoBy, MayDoChangeless, after_of, backup_effect, commits_by, reply_of}
 use Rattle.tm_machine.specs.Changing.{change_of}
 use Rattle.tm_machine.specs.Commits.{commits, last_from, opening}
 use Rattle.tm_machine.specs.Fitting.{PairFits}
@@ -17,8 +17,8 @@ use Rattle.tm_machine.specs.Runs.{any_refused, said_of, state_after}
 use Rattle.tm_machine.specs.Session.{Effect, line_effect}
 use Rattle.tm_machine.specs.States.{State, Stored, kept, opened}
 use Rattle.tm_machine.specs.Steps.{step}
-use Rattle.tm_machine.proofs.Allowing.{other_is, plain_may}
-use Rattle.tm_machine.proofs.CommitLemmas.{closing_some, last_of_line, other_undone_last, unless_last}
+use Rattle.tm_machine.proofs.Allowing.{changeless_is, plain_may}
+use Rattle.tm_machine.proofs.CommitLemmas.{closing_some, last_of_line, changeless_undone_last, unless_last}
 use Rattle.tm_machine.proofs.FitLemmas.{FitLaws, step_fits}
 
 -- ---- the last commit
@@ -26,7 +26,7 @@ use Rattle.tm_machine.proofs.FitLemmas.{FitLaws, step_fits}
 backup_last : (tree : LabelledTree) (s : State) → last_from (kept s) (commits_by (backup_effect tree s)) ≡ kept (after_of (backup_effect tree s))
 backup_last tree s =
     let d = backup_effect tree s in
-    unless_last (first_refused d.tested) s d.left d.after d.undone d.commits (other_undone_last s line.StartBackupBlock) refl
+    unless_last (first_refused d.tested) s d.after_refused d.after d.undone d.commits (changeless_undone_last s line.StartBackupBlock) refl
 
 Ends : State → Effect → Type 0
 Ends s d = last_from (kept s) (commits_by d) ≡ kept (after_of d)
@@ -35,14 +35,14 @@ plain_ends : (s : State) (l : Line) (d : Effect) → d ≡ line_effect s l → E
 unfolding Ends
 plain_ends s l d is = subst (λ (x : Effect). last_from (kept s) (commits_by x) ≡ kept (after_of x)) (sym is) (last_of_line s l)
 
-other_ends : (s : State) (l : Line) (d : Effect) → change_of l ≡ None → MayDoOther s l d → Ends s d
+changeless_ends : (s : State) (l : Line) (d : Effect) → change_of l ≡ None → MayDoChangeless s l d → Ends s d
 unfolding Ends
-other_ends s line.StartBackupBlock d e may = subst (λ (x : Effect). last_from (kept s) (commits_by x) ≡ kept (after_of x)) (sym may.is) (backup_last may.tree s)
-other_ends s l d e may = plain_ends s l d (may ∙ other_is s l e)
+changeless_ends s line.StartBackupBlock d e may = subst (λ (x : Effect). last_from (kept s) (commits_by x) ≡ kept (after_of x)) (sym may.is) (backup_last may.tree s)
+changeless_ends s l d e may = plain_ends s l d (may ∙ changeless_is s l e)
 
 ends_by : (s : State) (l : Line) (d : Effect) (o : Option Change) → change_of l ≡ o → MayDoBy s l o d → Ends s d
 ends_by s l d (Some c) e may = plain_ends s l d may
-ends_by s l d None e may = other_ends s l d e may
+ends_by s l d None e may = changeless_ends s l d e may
 
 pub effects_end : EffectsEnd
 unfolding Ends
@@ -65,13 +65,13 @@ plain_commits s (l ∷ lines) = ap (λ (xs : List Stored). commits_by (line_effe
 
 -- ---- over a pair that fits
 
-exact_other : (s : State) (l : Line) (d : Effect) → change_of l ≡ None → PairFits s → MayDoOther s l d → d ≡ line_effect s l
-exact_other s line.StartBackupBlock d e fits may = may.exact fits ∙ other_is s line.StartBackupBlock e
-exact_other s l d e fits may = may ∙ other_is s l e
+exact_changeless : (s : State) (l : Line) (d : Effect) → change_of l ≡ None → PairFits s → MayDoChangeless s l d → d ≡ line_effect s l
+exact_changeless s line.StartBackupBlock d e fits may = may.exact fits ∙ changeless_is s line.StartBackupBlock e
+exact_changeless s l d e fits may = may ∙ changeless_is s l e
 
 exact_by : (s : State) (l : Line) (d : Effect) (o : Option Change) → change_of l ≡ o → PairFits s → MayDoBy s l o d → d ≡ line_effect s l
 exact_by s l d (Some c) e fits may = may
-exact_by s l d None e fits may = exact_other s l d e fits may
+exact_by s l d None e fits may = exact_changeless s l d e fits may
 
 exact : (s : State) (l : Line) (d : Effect) → PairFits s → MayDo s l d → d ≡ line_effect s l
 exact s l d fits may = exact_by s l d (change_of l) refl fits may

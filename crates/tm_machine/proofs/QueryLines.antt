@@ -1,14 +1,17 @@
 -- Lines that stay in memory, and lines that read.
-use Rattle.std.proofs.Common.{◌≡◌, ℕ, Option, Some, Result, Ok, Err, List, [], sym, ap, subst}
+use Rattle.std.proofs.Common.{◌≡◌, ℕ, Option, Some, None, Result, Ok, Err, List, [], sym, ap, subst}
 use Rattle.tm_base.specs.declared.refused.LineFault.{LineFault}
 use Rattle.tm_base.specs.declared.refused.LineFault.TheVariants.{Refused as RefusedFor, Fault, Memory}
-use Rattle.tm_base.specs.declared.refused.Side.{Side as Named}
+use Rattle.tm_base.specs.declared.refused.Refused.{Refused}
+use Rattle.tm_base.specs.declared.refused.Refused.TheVariants.{NoVolume}
+use Rattle.tm_base.specs.declared.refused.Side.{Side as RefusedSide}
 use Rattle.tm_base.specs.Paths.{Names}
 use Rattle.tm_reply.specs.declared.row.ReplyRow.{ReplyRow}
 use Rattle.std.specs.Option.{option_map_or}
 use Rattle.tm_tree.specs.Changes.{item_tests}
 use Rattle.tm_tree.specs.Refusing.{Tests, first_refused}
-use Rattle.tm_volume.specs.Seen.{Seen as VolumeSeen, tree_on}
+use Rattle.tm_volume.specs.Seen.{Seen as VolumeSeen, stored_on, tree_on}
+use Rattle.tm_volume.specs.Stored.{StoredVolume}
 use Rattle.tm_world.specs.Log.{Log, now, Steps}
 use Rattle.tm_world.specs.Outside.{Outside, disk}
 use Rattle.tm_world.specs.declared.world.Side.{Side}
@@ -16,13 +19,12 @@ use Rattle.tm_world.specs.declared.world.Side.TheVariants.{Volume as VolumeSide}
 use Rattle.tm_world.proofs.Going.{Passes-none}
 use Rattle.tm_text.specs.declared.line.Line.{Line}
 use Rattle.tm_text.specs.declared.line.Line.TheVariants.{StartBackupBlock}
-use Rattle.tm_machine.specs.Allowed.{Did, MayBackUp, MayDoOther}
+use Rattle.tm_machine.specs.Allowed.{Did, MayBackUp, MayDoChangeless}
 use Rattle.tm_machine.specs.Answers.{AnswersBy, AnswersQuery, AnswersReading}
-use Rattle.tm_machine.specs.Commits.{unless_refused}
 use Rattle.tm_machine.specs.Queries.{list_rows}
-use Rattle.tm_machine.specs.Session.{Seen, state_on, Standing, IsOpen, Alike, IfReplied, effect, other_effect, Replies, Does}
+use Rattle.tm_machine.specs.Session.{Seen, state_on, Standing, IsOpen, Alike, IfReplied, effect, changeless_effect, Replies, Does}
 use Rattle.tm_machine.specs.States.{State, Stored, kept}
-use Rattle.tm_machine.specs.Steps.{clock_tests, on_volume}
+use Rattle.tm_machine.specs.Steps.{clock_tests, on_volume, unless_refused}
 use Rattle.tm_machine.specs.Stops.{LeavesPair}
 use Rattle.tm_machine.proofs.Resting.{stored_in, state_alike, standing_alike, open_alike, replied_any, reading_moments}
 
@@ -49,7 +51,7 @@ query_open m new blocks result alike h = replied_any result (IsOpen new blocks) 
 pub query_standing : (m new : Seen) (o : Outside) (result : Result (List ReplyRow) LineFault) → Alike m new → Standing m o → IfReplied result (Standing new o)
 query_standing m new o result alike h = replied_any result (Standing new o) (standing_alike m new o alike h)
 
-pub query_fault : {P : Type 0} (tested : Tests) (data_lines : List ReplyRow) (result : Result (List ReplyRow) LineFault) (side : Named)
+pub query_fault : {P : Type 0} (tested : Tests) (data_lines : List ReplyRow) (result : Result (List ReplyRow) LineFault) (side : RefusedSide)
     → AnswersQuery tested data_lines result → result ≡ Err (Fault side) → P
 query_fault tested data_lines result side h e = absurd (subst (λ (r : Result (List ReplyRow) LineFault). AnswersQuery tested data_lines r) e h)
 
@@ -105,7 +107,7 @@ clock_does m new date log result h standing = record {
   moments = Passes-none log _;
 }
 
-pub clock_fault : {P : Type 0} (m new : Seen) (date : ℕ) (result : Result (List ReplyRow) LineFault) (side : Named)
+pub clock_fault : {P : Type 0} (m new : Seen) (date : ℕ) (result : Result (List ReplyRow) LineFault) (side : RefusedSide)
     → AnswersBy (clock_tests m.moment date) [] (moved m date) m new result → result ≡ Err (Fault side) → P
 clock_fault m new date result side h e = absurd (subst (λ (r : Result (List ReplyRow) LineFault). AnswersBy (clock_tests m.moment date) [] (moved m date) m new r) e h)
 
@@ -139,7 +141,20 @@ list_answer m v o p result is h =
     subst (λ (x : Option VolumeSeen). AnswersQuery (on_volume (stored_in (disk VolumeSide o).bytes x) (λ s. item_tests s.volume.contents.tree p))
     (option_map_or (λ s. list_rows s.volume.contents.tree p) (stored_in (disk VolumeSide o).bytes x) []) result) (sym is) h
 
-pub ls_fault : {P : Type 0} (m : Seen) (o : Outside) (p : Names) (result : Result (List ReplyRow) LineFault) (side : Named)
+-- where no volume is formatted
+pub no_volume_reading : (test : StoredVolume → Tests) (rows : Option StoredVolume → List ReplyRow) (m : Seen) (o : Outside) (why : Refused) (r : Result (List ReplyRow) LineFault) → why ≡ NoVolume → m.volume ≡ None
+    → r ≡ Err (RefusedFor why) → AnswersReading (on_volume (state_on m o).volume test) (rows (state_on m o).volume) r
+no_volume_reading test rows m o why r is none exit =
+    subst (AnswersReading (on_volume (state_on m o).volume test) (rows (state_on m o).volume)) (sym exit)
+    (subst (λ (x : Option VolumeSeen). AnswersReading (on_volume (stored_in (disk VolumeSide o).bytes x) test) (rows (stored_in (disk VolumeSide o).bytes x)) (Err (RefusedFor why))) (sym none)
+    (ap (λ (x : Refused). Some x) (sym is)))
+
+pub volume_reading : (test : StoredVolume → Tests) (rows : Option StoredVolume → List ReplyRow) (m : Seen) (v : VolumeSeen) (o : Outside) (r : Result (List ReplyRow) LineFault) → m.volume ≡ Some v
+    → AnswersReading (test (stored_on v (disk VolumeSide o).bytes)) (rows (Some (stored_on v (disk VolumeSide o).bytes))) r → AnswersReading (on_volume (state_on m o).volume test) (rows (state_on m o).volume) r
+volume_reading test rows m v o r is h =
+    subst (λ (x : Option VolumeSeen). AnswersReading (on_volume (stored_in (disk VolumeSide o).bytes x) test) (rows (stored_in (disk VolumeSide o).bytes x)) r) (sym is) h
+
+pub ls_fault : {P : Type 0} (m : Seen) (o : Outside) (p : Names) (result : Result (List ReplyRow) LineFault) (side : RefusedSide)
     → AnswersQuery (on_volume (state_on m o).volume (λ s. item_tests s.volume.contents.tree p)) (option_map_or (λ s. list_rows s.volume.contents.tree p) (state_on m o).volume []) result
     → result ≡ Err (Fault side) → P
 ls_fault m o p result side h e =
@@ -147,19 +162,19 @@ ls_fault m o p result side h e =
 
 -- ---- a line that does not change the volume's contents, by its kind
 
-abbrev pub DoesOther : Line → Seen → Seen → Log → Log → Result (List ReplyRow) LineFault → Type 0
-DoesOther l m new start end result = Does (other_effect (state_on m (now start)) l) m new start end result
+abbrev pub DoesChangeless : Line → Seen → Seen → Log → Log → Result (List ReplyRow) LineFault → Type 0
+DoesChangeless l m new start end result = Does (changeless_effect (state_on m (now start)) l) m new start end result
 
-pub as_line : (l of : Line) (m new : Seen) (start end : Log) (result : Result (List ReplyRow) LineFault) → l ≡ of → DoesOther of m new start end result → DoesOther l m new start end result
-as_line l of m new start end result is does = subst (λ (x : Line). DoesOther x m new start end result) (sym is) does
+pub as_line : (l of : Line) (m new : Seen) (start end : Log) (result : Result (List ReplyRow) LineFault) → l ≡ of → DoesChangeless of m new start end result → DoesChangeless l m new start end result
+as_line l of m new start end result is does = subst (λ (x : Line). DoesChangeless x m new start end result) (sym is) does
 
 -- a line that does what the plain machine does
-pub as_plain : (l of : Line) (m new : Seen) (start end : Log) (result : Result (List ReplyRow) LineFault) → MayDoOther (state_on m (now start)) of (other_effect (state_on m (now start)) of)
-    → l ≡ of → DoesOther of m new start end result → Did (MayDoOther (state_on m (now start)) l) m new start end result
+pub as_plain : (l of : Line) (m new : Seen) (start end : Log) (result : Result (List ReplyRow) LineFault) → MayDoChangeless (state_on m (now start)) of (changeless_effect (state_on m (now start)) of)
+    → l ≡ of → DoesChangeless of m new start end result → Did (MayDoChangeless (state_on m (now start)) l) m new start end result
 as_plain l of m new start end result may is does =
-    subst (λ (x : Line). Did (MayDoOther (state_on m (now start)) x) m new start end result) (sym is) (record { effect = other_effect (state_on m (now start)) of; may = may; does = does })
+    subst (λ (x : Line). Did (MayDoChangeless (state_on m (now start)) x) m new start end result) (sym is) (record { effect = changeless_effect (state_on m (now start)) of; may = may; does = does })
 
 pub as_backup : (l : Line) (m new : Seen) (start end : Log) (result : Result (List ReplyRow) LineFault) → l ≡ StartBackupBlock
-    → Did (MayBackUp (state_on m (now start))) m new start end result → Did (MayDoOther (state_on m (now start)) l) m new start end result
+    → Did (MayBackUp (state_on m (now start))) m new start end result → Did (MayDoChangeless (state_on m (now start)) l) m new start end result
 as_backup l m new start end result is did =
-    subst (λ (x : Line). Did (MayDoOther (state_on m (now start)) x) m new start end result) (sym is) (record { effect = did.effect; may = did.may; does = did.does })
+    subst (λ (x : Line). Did (MayDoChangeless (state_on m (now start)) x) m new start end result) (sym is) (record { effect = did.effect; may = did.may; does = did.does })

@@ -5,8 +5,9 @@ use Rattle.std.proofs.lemmas.List.Elements.{All-head}
 use Rattle.std.proofs.lemmas.Option.{none-some}
 use Rattle.tm_base.specs.declared.refused.LineFault.{LineFault}
 use Rattle.tm_base.specs.declared.refused.LineFault.TheVariants.{Refused as RefusedFor, Fault, Memory}
-use Rattle.tm_store.specs.Sides.{SideReads as StoreSideReads, LeavesSide as LeavesStoreSide, BlankLeaves as StoreBlankLeaves}
-use Rattle.tm_store_records.specs.Held.{Held, stored_on as store_stored_on}
+use Rattle.tm_base.specs.Limits.{max_blocks}
+use Rattle.tm_store.specs.Sides.{StoreSideReads, LeavesStoreSide, StoreBlankLeaves}
+use Rattle.tm_store_records.specs.Held.{Held, store_stored_on}
 use Rattle.tm_store_records.specs.Laws.{HeldReads}
 use Rattle.tm_store_records.specs.States.{StoredStore}
 use Rattle.tm_volume.specs.Reads.{SideReads, LeavesEither, LeavesSide, BlankLeaves}
@@ -112,11 +113,11 @@ standing_alike m new o alike s = record {
 pub open_alike : (m new : Seen) (blocks : Side → ℕ) → Alike m new → IsOpen m blocks → IsOpen new blocks
 open_alike m new blocks alike h = record {
   count = h.count ∙ sym alike.blocks_same;
-  small = subst (λ (n : ℕ). n ≤ 262144) (sym alike.blocks_same) h.small;
+  small = subst (λ (n : ℕ). n ≤ max_blocks) (sym alike.blocks_same) h.small;
   sound = kept_alike m.volume new.volume alike.volume_same h.sound;
   ready = subst (λ (n : ℕ). IfSome new.volume (λ x. IsReady x n)) (sym alike.blocks_same) (ready_alike m.volume new.volume m.volume_blocks alike.volume_same h.ready);
   store_count = h.store_count ∙ sym alike.store_blocks_same;
-  store_small = subst (λ (n : ℕ). n ≤ 262144) (sym alike.store_blocks_same) h.store_small;
+  store_small = subst (λ (n : ℕ). n ≤ max_blocks) (sym alike.store_blocks_same) h.store_small;
   idle = subst (λ (n : ℕ). IfSome new.store (λ x. IsIdle x n)) (sym alike.store_blocks_same) (subst (λ (o : Option Held). IfSome o (λ x. IsIdle x m.store_blocks)) (sym alike.store_same) h.idle);
 }
 

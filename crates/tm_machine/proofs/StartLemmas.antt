@@ -7,31 +7,32 @@ use Rattle.std.proofs.lemmas.Bool.Decides.{nat_tests}
 use Rattle.std.proofs.lemmas.Bool.{cases_lt}
 use Rattle.tm_base.specs.declared.refused.Refused.{Refused}
 use Rattle.tm_base.specs.declared.refused.Refused.TheVariants.{DateNotLater, IdsSpent, TooMany}
+use Rattle.tm_base.specs.Limits.{max_snapshots}
 use Rattle.tm_tree.specs.Refusing.{first_refused, needs_moment, too_many}
 use Rattle.tm_tree.specs.States.{Snapshot}
 use Rattle.tm_store_records.specs.declared.snapshot.Snapshot.{Snapshot as Row}
 use Rattle.tm_store_records.specs.Found.{snapshot_key}
 use Rattle.tm_store_records.specs.Held.{Held, IsWhole, MayFinish, files_of, store_on}
 use Rattle.tm_store_records.specs.States.{snapshot_on}
-use Rattle.tm_machine.specs.Steps.{backup_tests, date_tests, most_snapshots}
+use Rattle.tm_machine.specs.Steps.{backup_tests, date_tests}
 use Rattle.tm_machine.proofs.StoredLemmas.{last_is, latest_is}
 
 same_length : {X Y : Type 0} (f : X → Y) (xs : List X) → length (map f xs) ≡ length xs
 same_length f [] = refl
 same_length f (x ∷ xs) = ap suc (same_length f xs)
 
-module _ (h : Held) (bytes : ℕ → List ℕ) (date : ℕ) (few : length h.snapshots < 1024) where
+module _ (h : Held) (bytes : ℕ → List ℕ) (date : ℕ) (few : length h.snapshots < max_snapshots) where
   abbrev told : Row → Snapshot
   told s = snapshot_on (files_of h.image.records bytes) h.nodes s
 
   -- the tests where the latest snapshot is this
   abbrev why_with : ℕ → Option Snapshot → Option Refused
-  why_with n found = first_refused (too_many most_snapshots (n + 1) ++ date_tests found (Some date) ++ needs_moment (Some date) ++ (nat_le (2 ^ 40) h.number, IdsSpent) ∷ [])
+  why_with n found = first_refused (too_many max_snapshots (n + 1) ++ date_tests found (Some date) ++ needs_moment (Some date) ++ (nat_le (2 ^ 40) h.number, IdsSpent) ∷ [])
 
   abbrev spent : Option Refused
   spent = cond (nat_le (2 ^ 40) h.number) (Some IdsSpent) None
 
-  not_many : nat_lt most_snapshots (length h.snapshots + 1) ≡ false
+  not_many : nat_lt max_snapshots (length h.snapshots + 1) ≡ false
   not_many = grind (arith, nat_tests)
 
   why_is : (o : Option Row) → slice_get h.snapshots (length h.snapshots - 1) ≡ o → first_refused (backup_tests (store_on h bytes) (Some date)) ≡ why_with (length h.snapshots) (option_map told o)
@@ -79,7 +80,7 @@ all_places P [] f k d low = absurd (omega (arith, low))
 all_places P (x ∷ xs) f zero d low = f 0 x refl
 all_places P (x ∷ xs) f (suc k) d low = all_places P xs (λ i y is. f (suc i) y is) k d (omega (arith, low))
 
-pub may_finish : (h : Held) (date : ℕ) → IsWhole h → length h.snapshots < 1024 → ((s : Row) → slice_get h.snapshots (length h.snapshots - 1) ≡ Some s → s.date < date) → h.number < 2 ^ 40 → MayFinish h date
+pub may_finish : (h : Held) (date : ℕ) → IsWhole h → length h.snapshots < max_snapshots → ((s : Row) → slice_get h.snapshots (length h.snapshots - 1) ≡ Some s → s.date < date) → h.number < 2 ^ 40 → MayFinish h date
 may_finish h date whole few later most = record {
   later = all_places (λ (s : Row). s.date < date) h.snapshots each;
   few = few;

@@ -6,13 +6,14 @@ use Rattle.tm_base.specs.declared.refused.LineFault.{LineFault}
 use Rattle.tm_base.specs.declared.refused.LineFault.TheVariants.{Refused as RefusedFor, Fault, Memory}
 use Rattle.tm_base.specs.declared.refused.Refused.{Refused}
 use Rattle.tm_base.specs.declared.refused.Refused.TheVariants.{Already, Small}
+use Rattle.tm_base.specs.Limits.{min_blocks}
 use Rattle.tm_reply.specs.declared.row.ReplyRow.{ReplyRow}
 use Rattle.tm_text.specs.declared.line.Line.TheVariants as line
 use Rattle.tm_tree.specs.Refusing.{Tests, first_refused}
 use Rattle.tm_tree.specs.States.{StoreState, new_store}
-use Rattle.tm_store.specs.Answers.{IfRefused, IsSmall}
-use Rattle.tm_store.specs.Sides.{SideReads as StoreSideReads}
-use Rattle.tm_store_records.specs.Held.{Held, stored_on as store_stored_on}
+use Rattle.tm_store.specs.Answers.{IfRefused, IsSmallRefusal}
+use Rattle.tm_store.specs.Sides.{StoreSideReads}
+use Rattle.tm_store_records.specs.Held.{Held, store_stored_on}
 use Rattle.tm_store_records.specs.States.{StoredStore}
 use Rattle.tm_image.specs.Seen.{Stands}
 use Rattle.tm_volume.specs.Reads.{SideReads, LeavesSide}
@@ -26,12 +27,12 @@ use Rattle.tm_world.specs.declared.world.Side.{Side}
 use Rattle.tm_world.specs.declared.world.Side.TheVariants.{Volume as VolumeSide, Store as StoreSide}
 use Rattle.tm_world.proofs.Going.{Passes-weaker}
 use Rattle.tm_world.proofs.Pairs.{Runs-ends}
-use Rattle.tm_machine.specs.Backups.{unless, walk_refusal, ends_as, dated, IsOneOf, LeavesOneOf, AnswersBackup}
+use Rattle.tm_machine.specs.Backups.{walk_refusal, ends_as, dated, IsOneOfStores, LeavesOneOfStores, AnswersBackup}
 use Rattle.tm_machine.specs.Commits as commits
-use Rattle.tm_machine.specs.Commits.{last_from, unless_refused}
+use Rattle.tm_machine.specs.Commits.{last_from}
 use Rattle.tm_machine.specs.Session.{Seen, state_on, VolumeStands, Standing, IsIdle, IsOpen, Effect, effect, Replies, Does}
 use Rattle.tm_machine.specs.States.{State, Stored, kept}
-use Rattle.tm_machine.specs.Steps.{at_rest, ended, new_store_tests, least_blocks, other_left, rows, start_tests, walk_by}
+use Rattle.tm_machine.specs.Steps.{at_rest, ended, new_store_tests, changeless_after_refused, rows, start_tests, unless_refused, walk_by}
 use Rattle.tm_machine.specs.Stops.{HaveNoStore, PairReads, IsAmong, LeavesCommits}
 use Rattle.tm_machine.proofs.Resting.{runs_framed, stored_in, seen, state, pair, LeavesEitherStore, store_moments, none_made, one_made, some_store}
 use Rattle.tm_machine.proofs.VolumeLines.{failed_replies, failed_replied, is_none_of}
@@ -62,16 +63,16 @@ format_among (Some why) made v u w none reads h = cc
 
 -- the tests of a new store
 abbrev tests_at : ℕ → Tests
-tests_at k = (false, Already) ∷ (nat_lt k least_blocks, Small) ∷ []
+tests_at k = (false, Already) ∷ (nat_lt k min_blocks, Small) ∷ []
 
-tests_pass : (k : ℕ) → least_blocks ≤ k → first_refused (tests_at k) ≡ None
-tests_pass k large = let t : nat_lt k least_blocks ≡ false = not_small k large in ap (λ (b : Bool). first_refused ((false, Already) ∷ (b, Small) ∷ [])) t
+tests_pass : (k : ℕ) → min_blocks ≤ k → first_refused (tests_at k) ≡ None
+tests_pass k large = let t : nat_lt k min_blocks ≡ false = not_small k large in ap (λ (b : Bool). first_refused ((false, Already) ∷ (b, Small) ∷ [])) t
   where
-    not_small : (n : ℕ) → least_blocks ≤ n → nat_lt n least_blocks ≡ false
+    not_small : (n : ℕ) → min_blocks ≤ n → nat_lt n min_blocks ≡ false
     not_small n h = grind (arith, nat_tests)
 
 module _ (m : Seen) (n k : ℕ) (v : Option VolumeSeen) (w : Option Held) (moment : Option ℕ) (machine : List ℕ) (start end : Log)
-    (is : seen n k v w moment ≡ m) (none : is_some w ≡ false) (large : least_blocks ≤ k)
+    (is : seen n k v w moment ≡ m) (none : is_some w ≡ false) (large : min_blocks ≤ k)
     (standing : Standing m (now start)) (rests : LeavesSide (state_on m (now start)).volume (disk VolumeSide (now start)))
     (runs : Runs StoreSide (LeavesEitherStore None (Some (at_rest (new_store machine)))) start end) where
   abbrev DoesAt : Seen → Seen → Result (List ReplyRow) LineFault → Type 0
@@ -104,14 +105,14 @@ module _ (m : Seen) (n k : ℕ) (v : Option VolumeSeen) (w : Option Held) (momen
       } in
       subst (λ (x : Seen). DoesAt x (seen n k v (Some new) moment) (Ok [])) was core
 
-  pub format_fails : (new : Seen) (why : LineFault) → ((r : Refused) → why ≡ RefusedFor r → ⊥) → DoesAt m new (Err why)
-  format_fails new why failed =
+  pub format_fails : (new : Seen) (result : Result (List ReplyRow) LineFault) (why : LineFault) → result ≡ Err why → ((r : Refused) → why ≡ RefusedFor r → ⊥) → DoesAt m new result
+  format_fails new result why is_why failed =
       let core : DoesAt (seen n k v None moment) new (Err why) = record {
         replies = failed_replies (tests_at k) (state n k held (Some (at_rest (new_store machine))) moment) (state_on new (now end)) (state n k held None moment) (pair held (Some (at_rest (new_store machine))) ∷ []) why failed;
         standing = failed_replied why (Standing new (now end)) failed;
         moments = moments_at;
       } in
-      subst (λ (x : Seen). DoesAt x new (Err why)) was core
+      subst (DoesAt m new) (sym is_why) (subst (λ (x : Seen). DoesAt x new (Err why)) was core)
 
   pub format_open : (new : Held) (blocks after : Side → ℕ) → IsOpen m blocks → after ≡ blocks → IsIdle new k → IsOpen (seen n k v (Some new) moment) after
   format_open new blocks after is_open same idle =
@@ -127,7 +128,7 @@ module _ (m : Seen) (n k : ℕ) (v : Option VolumeSeen) (w : Option Held) (momen
       }
 
 -- an image that is large enough is not refused
-pub blank_unrefused : (k : ℕ) (why : LineFault) → 8 ≤ k → IfRefused {A = Unit {0}} (Err why) (λ w. IsSmall w × (k < 8)) → (r : Refused) → why ≡ RefusedFor r → ⊥
+pub blank_unrefused : (k : ℕ) (why : LineFault) → 8 ≤ k → IfRefused {A = Unit {0}} (Err why) (λ w. IsSmallRefusal w × (k < 8)) → (r : Refused) → why ≡ RefusedFor r → ⊥
 blank_unrefused k (RefusedFor w) large h r e = omega (arith, large, h.1)
 blank_unrefused k (Fault side) large h r e = cc
 blank_unrefused k Memory large h r e = cc
@@ -156,7 +157,7 @@ pairs_last v first zero zs = refl
 pairs_last v first (suc made) [] = refl
 pairs_last v first (suc made) (z ∷ zs) = pairs_last v z made zs
 
-one_of_among : (v : Option StoredVolume) (first : StoredStore) (later : List StoredStore) (u w : Image) → SideReads u v → IsOneOf first later w → IsAmong (pair v (Some first)) (pairs v later) u w
+one_of_among : (v : Option StoredVolume) (first : StoredStore) (later : List StoredStore) (u w : Image) → SideReads u v → IsOneOfStores first later w → IsAmong (pair v (Some first)) (pairs v later) u w
 one_of_among v first later u w reads one = record {
   made = one.made;
   few = omega (arith, one.few, pairs_length v later);
@@ -164,7 +165,7 @@ one_of_among v first later u w reads one = record {
 }
 
 run_moments : (first : StoredStore) (later : List StoredStore) (v : Option StoredVolume) (start end : Log) → AreApart (now start) → LeavesSide v (disk VolumeSide (now start))
-    → Runs StoreSide (LeavesOneOf first later) start end → Passes start end (LeavesCommits (pair v (Some first)) (pairs v later) (now start))
+    → Runs StoreSide (LeavesOneOfStores first later) start end → Passes start end (LeavesCommits (pair v (Some first)) (pairs v later) (now start))
 run_moments first later v start end apart rests runs =
     Passes-weaker start end _ _
     (λ o at. let beside = at.beside in
@@ -175,7 +176,7 @@ run_moments first later v start end apart rests runs =
       blank = record { volume = λ none few. beside.there; store = λ none few. absurd (none-some first (sym none)) };
       among = λ u w u_left w_left. one_of_among v first later u w (rests u (subst (λ (d : Disk). IsLeft d u) beside.there u_left)) (beside.here w w_left);
     })
-    (runs_framed StoreSide (LeavesOneOf first later) start end apart runs)
+    (runs_framed StoreSide (LeavesOneOfStores first later) start end apart runs)
 
 -- a session in which a backup of this date has passed the tests that come first, and which would make `finished` of the store
 module _ (n k : ℕ) (v : StoredVolume) (z : StoredStore) (date : ℕ) (finished : StoreState) where
@@ -195,8 +196,8 @@ module _ (n k : ℕ) (v : StoredVolume) (z : StoredStore) (date : ℕ) (finished
     rows = rows at_start line.StartBackupBlock;
     after = at_end;
     commits = commits.started at_start ∷ kept at_end ∷ [];
-    left = other_left at_start line.StartBackupBlock;
-    undone = commits.other_undone at_start line.StartBackupBlock;
+    after_refused = changeless_after_refused at_start line.StartBackupBlock;
+    undone = commits.changeless_undone at_start line.StartBackupBlock;
   }
 
   refusal_is : first_refused (start_tests at_start) ≡ None → first_refused effect_by.tested ≡ walks
@@ -204,7 +205,7 @@ module _ (n k : ℕ) (v : StoredVolume) (z : StoredStore) (date : ℕ) (finished
 
   commits_are : first_refused (start_tests at_start) ≡ None → (w : Option Refused) → first_refused effect_by.tested ≡ w
       → unless_refused (first_refused effect_by.tested) effect_by.undone effect_by.commits
-      ≡ pairs (Some v) (dated z.store date ∷ unless w (at_rest z.store) (at_rest finished) ∷ [])
+      ≡ pairs (Some v) (dated z.store date ∷ unless_refused w (at_rest z.store) (at_rest finished) ∷ [])
   commits_are none None e = ap (λ (x : Option Refused). unless_refused x effect_by.undone effect_by.commits) e
   commits_are none (Some why) e =
       ap (λ (x : Option Refused). unless_refused x effect_by.undone effect_by.commits) e
@@ -219,7 +220,7 @@ module _ (n k : ℕ) (v : StoredVolume) (z : StoredStore) (date : ℕ) (finished
   backup_replies none new (Err Memory) h = tt
 
   pub backup_moments : first_refused (start_tests at_start) ≡ None → (start end : Log) → AreApart (now start) → LeavesSide (Some v) (disk VolumeSide (now start))
-      → Runs StoreSide (LeavesOneOf z (dated z.store date ∷ ends_as finished k z.store v.volume ∷ [])) start end
+      → Runs StoreSide (LeavesOneOfStores z (dated z.store date ∷ ends_as finished k z.store v.volume ∷ [])) start end
       → Passes start end (LeavesCommits (kept at_start) (unless_refused (first_refused effect_by.tested) effect_by.undone effect_by.commits) (now start))
   backup_moments none start end apart rests runs =
       subst (λ (cs : List Stored). Passes start end (LeavesCommits (kept at_start) cs (now start))) (sym (commits_are none walks (refusal_is none)))

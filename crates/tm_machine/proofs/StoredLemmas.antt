@@ -8,7 +8,7 @@ use Rattle.tm_base.specs.Paths.{Names, same_name}
 use Rattle.tm_base.specs.declared.refused.LineFault.{LineFault}
 use Rattle.tm_base.specs.declared.refused.LineFault.TheVariants.{Refused as RefusedFor, Fault, Memory}
 use Rattle.tm_base.specs.declared.refused.Refused.{Refused}
-use Rattle.tm_base.specs.declared.refused.Refused.TheVariants.{NoSnapshot, IsFolder}
+use Rattle.tm_base.specs.declared.refused.Refused.TheVariants.{NoSnapshot, NoStore, IsFolder}
 use Rattle.tm_reply.specs.declared.row.ReplyRow.{ReplyRow}
 use Rattle.tm_reply.specs.declared.row.ReplyRow.TheVariants as row
 use Rattle.tm_reply.specs.declared.row.ListedName.{ListedName}
@@ -41,7 +41,7 @@ use Rattle.tm_graph.specs.Nodes.{IsGraph}
 use Rattle.tm_graph.specs.Trees.{number_at, rows_of}
 use Rattle.tm_identity.specs.Entries.{EntriesStand, entry_read, standing_in}
 use Rattle.tm_store.specs.declared.finding.Found.{Found}
-use Rattle.tm_store.specs.Finding.{LeadsTo, Looks, NamedAt, NamedUnder, held_at, held_under}
+use Rattle.tm_store.specs.Finding.{WalkLeadsTo, Looks, NamedAt, NamedUnder, held_at, held_under}
 use Rattle.tm_tree.specs.Copies.{LabelledTree}
 use Rattle.tm_tree.specs.Trees.{children, is_child, last_of}
 use Rattle.tm_tree.specs.Walks.{walk}
@@ -56,12 +56,9 @@ use Rattle.tm_machine.proofs.Resting.{held_in}
 use Rattle.tm_machine.proofs.Reading.{contents_missing, content_folder, list_missing, lists, tells}
 use Rattle.tm_machine.specs.Queries.{attributes, leaf_in, content_row, content_rows, date_of, list_rows, read_item, child_line, child_lines, extra_rows, item_row, named_row, node_attributes, node_line, node_lines, shown_rows, path_row, date_row, snapshot_paths, latest_path, held_paths, held_dates, held_latest, held_machine, store_rows, named_snapshot, holding_snapshot, stored_tree}
 use Rattle.tm_machine.specs.Steps.{content_tests, on_store, place_tests, snapshot_tests, stored_tests}
+use Rattle.tm_base.proofs.Facts.{last_there}
 
 -- the last of a list
-
-last_there : {X : Type 0} (o : Option X) (x : X) (xs : List X) → slice_get (x ∷ xs) (length xs) ≡ last_or o (x ∷ xs)
-last_there o x [] = refl
-last_there o x (y ∷ ys) = last_there (Some x) y ys
 
 pub last_is : {X : Type 0} (xs : List X) → slice_get xs (length xs - 1) ≡ last_or None xs
 last_is [] = refl
@@ -214,7 +211,7 @@ module _ (named : NamedUnder) (stands : EntriesStand) (h : Held) (bytes : ℕ �
   its_snapshot o e = named h bytes at.snapshot.machine (date_of at.snapshot.at) at.volume ∙ ap (option_map (snapshot_on its_files h.nodes)) e
 
   holds_node : (s : Row) (found : Found) (row : NodeRow) → number_at h.nodes s.root at.path ≡ Some found.node → node h.nodes found.node ≡ Some row
-      → LeadsTo its_files h.nodes (rows_of (labelled_on its_files) h.nodes s.root) at.path found.node → HoldsNode (snapshot_on its_files h.nodes s) at.path its_files h.nodes found.node row
+      → WalkLeadsTo its_files h.nodes (rows_of (labelled_on its_files) h.nodes s.root) at.path found.node → HoldsNode (snapshot_on its_files h.nodes s) at.path its_files h.nodes found.node row
   holds_node s found row number is leads =
       let same : leads.row ≡ row = one_row leads.row row (sym leads.is ∙ is) in
       record {
@@ -333,6 +330,22 @@ stored_link files g o path found a stamp target copy result finds e is row_is =
 -- a fact of a session's store, whatever it holds
 pub of_store : (P : Option StoreState → Type 0) (m : Seen) (h : Held) (o : Outside) → m.store ≡ Some h → P (Some (store_on h (disk StoreSide o).bytes)) → P (store_in (state_on m o).store)
 of_store P m h o is p = subst (λ (z : Option Held). P (store_in (held_in (disk StoreSide o).bytes z))) (sym is) p
+
+pub of_none : (P : Option StoreState → Type 0) (m : Seen) (o : Outside) → m.store ≡ None → P None → P (store_in (state_on m o).store)
+of_none P m o is p = subst (λ (z : Option Held). P (store_in (held_in (disk StoreSide o).bytes z))) (sym is) p
+
+-- where no store is formatted
+pub no_store_answer : (test : StoreState → Tests) (rows : Option StoreState → List ReplyRow) (m : Seen) (o : Outside) (why : Refused) (r : Result (List ReplyRow) LineFault) → why ≡ NoStore → m.store ≡ None → r ≡ Err (RefusedFor why)
+    → AnswersQuery (on_store (store_in (state_on m o).store) test) (rows (store_in (state_on m o).store)) r
+no_store_answer test rows m o why r is none exit =
+    subst (AnswersQuery (on_store (store_in (state_on m o).store) test) (rows (store_in (state_on m o).store))) (sym exit)
+    (of_none (λ z. AnswersQuery (on_store z test) (rows z) (Err (RefusedFor why))) m o none (ap Some (sym is)))
+
+pub no_store_reading : (test : StoreState → Tests) (rows : Option StoreState → List ReplyRow) (m : Seen) (o : Outside) (why : Refused) (r : Result (List ReplyRow) LineFault) → why ≡ NoStore → m.store ≡ None → r ≡ Err (RefusedFor why)
+    → AnswersReading (on_store (store_in (state_on m o).store) test) (rows (store_in (state_on m o).store)) r
+no_store_reading test rows m o why r is none exit =
+    subst (AnswersReading (on_store (store_in (state_on m o).store) test) (rows (store_in (state_on m o).store))) (sym exit)
+    (of_none (λ z. AnswersReading (on_store z test) (rows z) (Err (RefusedFor why))) m o none (ap Some (sym is)))
 
 pub tells_backups : (m : Seen) (h : Held) (rows : List ReplyRow) → m.store ≡ Some h → rows ≡ held_paths h.machine h.snapshots → (o : Outside)
     → let z = store_in (state_on m o).store in AnswersQuery (on_store z (λ store. [])) (option_map_or snapshot_paths z []) (Ok rows)

@@ -6,17 +6,18 @@ use Rattle.tm_base.specs.declared.refused.LineFault.{LineFault}
 use Rattle.tm_base.specs.declared.refused.LineFault.TheVariants.{Refused as RefusedFor, Fault, Memory}
 use Rattle.tm_base.specs.declared.refused.Refused.{Refused}
 use Rattle.tm_base.specs.declared.refused.Refused.TheVariants.{Already, Small, IdTaken}
-use Rattle.tm_base.specs.declared.refused.Side.{Side as Named}
+use Rattle.tm_base.specs.Limits.{min_blocks}
+use Rattle.tm_base.specs.LineFaults.{NoFault}
 use Rattle.tm_reply.specs.declared.row.ReplyRow.{ReplyRow}
 use Rattle.tm_tree.specs.declared.change.Change.{Change}
 use Rattle.tm_tree.specs.declared.rows.Touch.{Touch}
 use Rattle.tm_tree.specs.Refusing.{Tests, first_refused, needs_moment}
 use Rattle.tm_tree.specs.States.{StoreState}
-use Rattle.tm_store.specs.Sides.{SideReads as StoreSideReads, LeavesSide as LeavesStoreSide}
+use Rattle.tm_store.specs.Sides.{StoreSideReads, LeavesStoreSide}
 use Rattle.tm_store_records.specs.Held.{Held}
 use Rattle.tm_store_records.specs.States.{StoredStore}
-use Rattle.tm_volume.specs.Answers.{MeetsChange}
-use Rattle.tm_volume.specs.Changes as volume
+use Rattle.tm_changes.specs.Answers.{MeetsChange}
+use Rattle.tm_changes.specs.Changes as volume
 use Rattle.tm_volume.specs.Reads.{SideReads, LeavesEither}
 use Rattle.tm_volume.specs.Seen.{Seen as VolumeSeen, IsKept, IsReady, StandsOn, stored_on}
 use Rattle.tm_volume.specs.Stored.{StoredVolume, new_stored}
@@ -27,10 +28,9 @@ use Rattle.tm_world.specs.Runs.{Runs}
 use Rattle.tm_world.specs.declared.world.Side.{Side}
 use Rattle.tm_world.specs.declared.world.Side.TheVariants.{Volume as VolumeSide, Store as StoreSide}
 use Rattle.tm_world.proofs.Pairs.{Runs-ends}
-use Rattle.tm_machine.specs.Commits.{unless_refused}
 use Rattle.tm_machine.specs.Session.{Seen, state_on, StoreStands, Standing, IsOpen, IfReplied, Effect, effect, Replies, Does}
 use Rattle.tm_machine.specs.States.{State, Stored, kept, store_in}
-use Rattle.tm_machine.specs.Steps.{changed, change_tests, new_volume_tests, least_blocks, is_taken}
+use Rattle.tm_machine.specs.Steps.{changed, change_tests, new_volume_tests, is_taken, unless_refused}
 use Rattle.tm_machine.specs.Stops.{HaveNoVolume, IsAmong, LeavesCommits}
 use Rattle.tm_machine.proofs.Resting.{held_in, seen, state, pair, volume_moments, none_made, one_made, some_volume}
 
@@ -75,7 +75,7 @@ change_replies n k old new z moment c made (Err (RefusedFor why)) h = (h.0, ap (
 change_replies n k old new z moment c made (Err (Fault side)) h = tt
 change_replies n k old new z moment c made (Err Memory) h = tt
 
-pub change_replied : (result : Result (List Touch) LineFault) (fact : Type 0) → (((side : Named) → result ≢ Err (Fault side)) → fact) → IfReplied (reply_of result) fact
+pub change_replied : (result : Result (List Touch) LineFault) (fact : Type 0) → (NoFault result → fact) → IfReplied (reply_of result) fact
 change_replied (Ok found) fact h = h (λ side e. cc)
 change_replied (Err (RefusedFor why)) fact h = h (λ side e. cc)
 change_replied (Err (Fault side)) fact h = tt
@@ -89,7 +89,7 @@ DoesChange m new c start end result =
 change_does_at : (n k : ℕ) (v new : VolumeSeen) (h : Option Held) (moment : Option ℕ) (c : Change) (start end : Log) (result : Result (List Touch) LineFault)
     → AreApart (now start) → StoreStands h (disk StoreSide (now start)) → LeavesStoreSide (held_in (disk StoreSide (now start)).bytes h) (disk StoreSide (now start))
     → MeetsChange n (stored_on v (disk VolumeSide (now start)).bytes) c moment (stored_on new (disk VolumeSide (now end)).bytes) result
-    → (((side : Named) → result ≢ Err (Fault side)) → StandsOn new (disk VolumeSide (now end)))
+    → (NoFault result → StandsOn new (disk VolumeSide (now end)))
     → Runs VolumeSide (LeavesEither (Some (stored_on v (disk VolumeSide (now start)).bytes)) (Some (volume.after_change n (stored_on v (disk VolumeSide (now start)).bytes) c moment))) start end
     → DoesChange (seen n k (Some v) h moment) (seen n k (Some new) h moment) c start end (reply_of result)
 change_does_at n k v new h moment c start end result apart store_stands rests meets stands runs =
@@ -120,7 +120,7 @@ module _ (m : Seen) (n k count : ℕ) (w : Option VolumeSeen) (v new : VolumeSee
 
   pub change_does : LeavesStoreSide (state_on m (now start)).store (disk StoreSide (now start))
       → MeetsChange count before c moment (stored_on new (disk VolumeSide (now end)).bytes) result
-      → (((side : Named) → result ≢ Err (Fault side)) → StandsOn new (disk VolumeSide (now end)))
+      → (NoFault result → StandsOn new (disk VolumeSide (now end)))
       → Runs VolumeSide (LeavesEither (Some before) (Some (volume.after_change count before c moment))) start end
       → DoesChange m (seen n k (Some new) h moment) c start end (reply_of result)
   change_does rests meets stands runs =
@@ -132,7 +132,7 @@ module _ (m : Seen) (n k count : ℕ) (w : Option VolumeSeen) (v new : VolumeSee
       (subst (λ (j : ℕ). Runs VolumeSide (LeavesEither (Some before) (Some (volume.after_change j before c moment))) start end) many runs))
 
 pub change_open : (m : Seen) (n k : ℕ) (w : Option VolumeSeen) (v new : VolumeSeen) (h : Option Held) (moment : Option ℕ) (blocks after : Side → ℕ) (result : Result (List Touch) LineFault)
-    → seen n k w h moment ≡ m → IsOpen m blocks → after ≡ blocks → IsKept new → (((side : Named) → result ≢ Err (Fault side)) → IsReady new (blocks VolumeSide))
+    → seen n k w h moment ≡ m → IsOpen m blocks → after ≡ blocks → IsKept new → (NoFault result → IsReady new (blocks VolumeSide))
     → IfReplied (reply_of result) (IsOpen (seen n k (Some new) h moment) after)
 change_open m n k w v new h moment blocks after result is is_open same sound ready =
     let at = subst (λ (x : Seen). IsOpen x blocks) (sym is) is_open in
@@ -169,16 +169,16 @@ is_none_of (Some v) h = cc
 
 -- the tests of a new volume
 abbrev tests_at : ℕ → Option StoreState → Option ℕ → ℕ → Tests
-tests_at n store moment id = (false, Already) ∷ (nat_lt n least_blocks, Small) ∷ needs_moment moment ++ (is_taken store id, IdTaken) ∷ []
+tests_at n store moment id = (false, Already) ∷ (nat_lt n min_blocks, Small) ∷ needs_moment moment ++ (is_taken store id, IdTaken) ∷ []
 
-not_small : (n : ℕ) → least_blocks ≤ n → nat_lt n least_blocks ≡ false
+not_small : (n : ℕ) → min_blocks ≤ n → nat_lt n min_blocks ≡ false
 not_small n h = grind (arith, nat_tests)
 
-tests_pass : (n : ℕ) (store : Option StoreState) (d id : ℕ) → nat_lt n least_blocks ≡ false → is_taken store id ≡ false → first_refused (tests_at n store (Some d) id) ≡ None
+tests_pass : (n : ℕ) (store : Option StoreState) (d id : ℕ) → nat_lt n min_blocks ≡ false → is_taken store id ≡ false → first_refused (tests_at n store (Some d) id) ≡ None
 tests_pass n store d id large free = rw (large, free) refl
 
 module _ (m : Seen) (n k : ℕ) (w : Option VolumeSeen) (h : Option Held) (moment : Option ℕ) (d : ℕ) (name : List ℕ) (id events : ℕ) (start end : Log)
-    (is : seen n k w h moment ≡ m) (none : is_some w ≡ false) (large : least_blocks ≤ n) (dated : moment ≡ Some d) (free : is_taken (store_in (state_on m (now start)).store) id ≡ false)
+    (is : seen n k w h moment ≡ m) (none : is_some w ≡ false) (large : min_blocks ≤ n) (dated : moment ≡ Some d) (free : is_taken (store_in (state_on m (now start)).store) id ≡ false)
     (standing : Standing m (now start)) (rests : LeavesStoreSide (state_on m (now start)).store (disk StoreSide (now start)))
     (runs : Runs VolumeSide (LeavesEither None (Some (new_stored name id events d))) start end) where
   abbrev made : Option ℕ → StoredVolume
@@ -221,14 +221,14 @@ module _ (m : Seen) (n k : ℕ) (w : Option VolumeSeen) (h : Option Held) (momen
       subst (λ (x : Seen). DoesAt x (seen n k (Some new) h moment) (Ok [])) was_at
       (subst (λ (mo : Option ℕ). DoesAt (seen n k None h (Some d)) (seen n k (Some new) h mo) (Ok [])) (sym dated) core)
 
-  pub format_fails : (new : Seen) (why : LineFault) → ((r : Refused) → why ≡ RefusedFor r → ⊥) → DoesAt m new (Err why)
-  format_fails new why failed =
+  pub format_fails : (new : Seen) (result : Result (List ReplyRow) LineFault) (why : LineFault) → result ≡ Err why → ((r : Refused) → why ≡ RefusedFor r → ⊥) → DoesAt m new result
+  format_fails new result why is_why failed =
       let core : DoesAt (seen n k None h (Some d)) new (Err why) = record {
         replies = failed_replies (tests_at n (store_in z) (Some d) id) (state n k (Some (made (Some d))) z (Some d)) (state_on new (now end)) (state n k None z (Some d)) (pair (Some (made (Some d))) z ∷ []) why failed;
         standing = failed_replied why (Standing new (now end)) failed;
         moments = moments_at;
       } in
-      subst (λ (x : Seen). DoesAt x new (Err why)) was_at core
+      subst (DoesAt m new) (sym is_why) (subst (λ (x : Seen). DoesAt x new (Err why)) was_at core)
 
   pub format_open : (new : VolumeSeen) (blocks after : Side → ℕ) → IsOpen m blocks → after ≡ blocks → IsKept new → IsReady new n → IsOpen (seen n k (Some new) h moment) after
   format_open new blocks after is_open same sound ready =

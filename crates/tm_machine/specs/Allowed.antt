@@ -14,11 +14,11 @@ use Rattle.tm_store_records.specs.States.{StoredStore}
 use Rattle.tm_world.specs.Log.{Log, now, Passes}
 use Rattle.tm_machine.specs.Backups.{backed_with}
 use Rattle.tm_machine.specs.Changing.{change_of}
-use Rattle.tm_machine.specs.Commits.{other_undone, started, unless_refused}
+use Rattle.tm_machine.specs.Commits.{changeless_undone, started}
 use Rattle.tm_machine.specs.Fitting.{PairFits}
-use Rattle.tm_machine.specs.Session.{Does, Effect, Seen, line_effect, other_effect}
+use Rattle.tm_machine.specs.Session.{Does, Effect, Seen, line_effect, changeless_effect}
 use Rattle.tm_machine.specs.States.{State, Stored, kept, store_in}
-use Rattle.tm_machine.specs.Steps.{answer, at_rest, other_left, rows, start_tests, unless_refused as after_by, walk_by}
+use Rattle.tm_machine.specs.Steps.{answer, at_rest, changeless_after_refused, rows, start_tests, unless_refused, walk_by}
 use Rattle.tm_machine.specs.Stops.{LeavesCommits}
 
 -- the tests of a backup whose copy is this tree, and the store when it has finished
@@ -39,24 +39,24 @@ backup_effect tree s =
       rows = rows s line.StartBackupBlock;
       after = after;
       commits = started s ∷ kept after ∷ [];
-      left = other_left s line.StartBackupBlock;
-      undone = other_undone s line.StartBackupBlock;
+      after_refused = changeless_after_refused s line.StartBackupBlock;
+      undone = changeless_undone s line.StartBackupBlock;
     }
 
 -- what a backup may do: some tree is its copy, and the labelled copy is where the pair fits
 pub record MayBackUp (s : State) (d : Effect) : Type 0 where
   pub tree : LabelledTree
   pub is : d ≡ backup_effect tree s
-  pub exact : PairFits s → d ≡ other_effect s line.StartBackupBlock
+  pub exact : PairFits s → d ≡ changeless_effect s line.StartBackupBlock
 
 -- every other line does what the plain machine does
-abbrev pub MayDoOther : State → Line → Effect → Type 0
-MayDoOther s line.StartBackupBlock d = MayBackUp s d
-MayDoOther s l d = d ≡ other_effect s l
+abbrev pub MayDoChangeless : State → Line → Effect → Type 0
+MayDoChangeless s line.StartBackupBlock d = MayBackUp s d
+MayDoChangeless s l d = d ≡ changeless_effect s l
 
 abbrev pub MayDoBy : State → Line → Option Change → Effect → Type 0
 MayDoBy s l (Some c) d = d ≡ line_effect s l
-MayDoBy s l None d = MayDoOther s l d
+MayDoBy s l None d = MayDoChangeless s l d
 
 abbrev pub MayDo : State → Line → Effect → Type 0
 MayDo s l d = MayDoBy s l (change_of l) d
@@ -77,7 +77,7 @@ abbrev pub commits_by : Effect → List Stored
 commits_by d = unless_refused (first_refused d.tested) d.undone d.commits
 
 abbrev pub after_of : Effect → State
-after_of d = after_by (first_refused d.tested) d.left d.after
+after_of d = unless_refused (first_refused d.tested) d.after_refused d.after
 
 -- a line did something that it may do: at each moment a stop leaves a prefix of its commits, and of its reply and the state
 -- after it this holds

@@ -18,15 +18,11 @@ use Rattle.tm_world.specs.Log.{Log}
 use Rattle.tm_world.specs.Runs.{Runs}
 use Rattle.tm_world.specs.declared.world.Side.TheVariants.{Store as StoreSide}
 use Rattle.tm_machine.specs.Commits.{last_from}
-use Rattle.tm_machine.specs.Steps.{at_rest, backup_tests, finished_rows, walk_by}
+use Rattle.tm_machine.specs.Steps.{at_rest, backup_tests, finished_rows, unless_refused, walk_by}
 
 -- the store while a backup of this date runs
 abbrev pub dated : StoreState → ℕ → StoredStore
 dated store date = record { store = store; running = Some date }
-
-abbrev pub unless : Option Refused → StoredStore → StoredStore → StoredStore
-unless None refused done = done
-unless (Some why) refused done = refused
 
 -- a store with a snapshot more, of which all but the tree is as defined
 abbrev pub backed_with : LabelledTree → StoreState → VolumeState → ℕ → StoreState
@@ -52,20 +48,20 @@ walk_refusal new blocks store v = first_refused (walk_by new blocks store v)
 
 -- the store when it has ended: with a snapshot more, or as it was
 abbrev pub ends_as : StoreState → ℕ → StoreState → VolumeState → StoredStore
-ends_as new blocks store v = unless (walk_refusal new blocks store v) (at_rest store) (at_rest new)
+ends_as new blocks store v = unless_refused (walk_refusal new blocks store v) (at_rest store) (at_rest new)
 
 -- the store when the copy has ended: with a snapshot more, or still with its date
 abbrev pub finishes_as : StoreState → ℕ → StoreState → VolumeState → ℕ → StoredStore
-finishes_as new blocks store v date = unless (walk_refusal new blocks store v) (dated store date) (at_rest new)
+finishes_as new blocks store v date = unless_refused (walk_refusal new blocks store v) (dated store date) (at_rest new)
 
 -- a stop leaves the first, or one of those that follow
-pub record IsOneOf (first : StoredStore) (later : List StoredStore) (image : Image) : Type 0 where
+pub record IsOneOfStores (first : StoredStore) (later : List StoredStore) (image : Image) : Type 0 where
   pub made : ℕ
   pub few : made ≤ length later
   pub reads : StoreReads image (last_from first (take made later))
 
-abbrev pub LeavesOneOf : StoredStore → List StoredStore → Disk → Type 0
-LeavesOneOf first later disk = (image : Image) → IsLeft disk image → IsOneOf first later image
+abbrev pub LeavesOneOfStores : StoredStore → List StoredStore → Disk → Type 0
+LeavesOneOfStores first later disk = (image : Image) → IsLeft disk image → IsOneOfStores first later image
 
 -- what a backup that has started answers, and the store then
 abbrev pub AnswersBackup : StoreState → ℕ → StoreState → StoredVolume → ℕ → StoredStore → Result (List ReplyRow) LineFault → Type 0
@@ -92,7 +88,7 @@ pub record DoesCopy (blocks : ℕ) (store : StoreState) (v : StoredVolume) (date
 pub record DoesBackup (blocks : ℕ) (z : StoredStore) (v : StoredVolume) (date : ℕ) (after : StoredStore) (start end : Log) (result : Result (List ReplyRow) LineFault) : Type 0 where
   pub finished : StoreState
   pub may : MayFinishAs z.store v.volume date finished
-  pub moments : Runs StoreSide (LeavesOneOf z (dated z.store date ∷ ends_as finished blocks z.store v.volume ∷ [])) start end
+  pub moments : Runs StoreSide (LeavesOneOfStores z (dated z.store date ∷ ends_as finished blocks z.store v.volume ∷ [])) start end
   pub answers : AnswersBackup finished blocks z.store v date after result
 
 -- whether a date is later than the last snapshot's

@@ -10,7 +10,7 @@ use Rattle.tm_tree.specs.declared.change.Change.{Change}
 use Rattle.tm_volume.specs.Stored.{StoredVolume, reopened}
 use Rattle.tm_machine.specs.Changing.{change_of}
 use Rattle.tm_machine.specs.States.{State, Stored, kept, opened}
-use Rattle.tm_machine.specs.Steps.{begun, changed, ended, other_after, refusal, start_tests, step}
+use Rattle.tm_machine.specs.Steps.{begun, changed, ended, changeless_after, refusal, start_tests, step, unless_refused}
 
 -- the last of a list, or what was there before it
 abbrev pub last_from : {A : Type 0} → A → List A → A
@@ -33,40 +33,36 @@ opening r = opening_of r.volume r.store
 abbrev pub started : State → Stored
 started s = record { volume = s.volume; store = option_map (begun s.moment) s.store }
 
-abbrev pub other_commits : State → Line → List Stored
-other_commits s (line.NewVolume name id events) = kept (other_after s (line.NewVolume name id events)) ∷ []
-other_commits s (line.NewStore machine) = kept (other_after s (line.NewStore machine)) ∷ []
-other_commits s line.StartBackupBlock = started s ∷ kept (other_after s line.StartBackupBlock) ∷ []
-other_commits s _ = []
+abbrev pub changeless_commits : State → Line → List Stored
+changeless_commits s (line.NewVolume name id events) = kept (changeless_after s (line.NewVolume name id events)) ∷ []
+changeless_commits s (line.NewStore machine) = kept (changeless_after s (line.NewStore machine)) ∷ []
+changeless_commits s line.StartBackupBlock = started s ∷ kept (changeless_after s line.StartBackupBlock) ∷ []
+changeless_commits s _ = []
 
-abbrev pub commits_by : State → Line → Option Change → List Stored
-commits_by s l (Some c) = kept (changed s c) ∷ []
-commits_by s l None = other_commits s l
+abbrev pub done_by : State → Line → Option Change → List Stored
+done_by s l (Some c) = kept (changed s c) ∷ []
+done_by s l None = changeless_commits s l
 
 -- where a backup that had started is refused, its date comes and goes
 abbrev pub ending : Option Refused → State → List Stored
 ending None s = started s ∷ kept (ended None s) ∷ []
 ending (Some why) s = []
 
-abbrev pub other_undone : State → Line → List Stored
-other_undone s line.StartBackupBlock = ending (first_refused (start_tests s)) s
-other_undone s _ = []
+abbrev pub changeless_undone : State → Line → List Stored
+changeless_undone s line.StartBackupBlock = ending (first_refused (start_tests s)) s
+changeless_undone s _ = []
 
 abbrev pub undone_by : State → Line → Option Change → List Stored
 undone_by s l (Some c) = []
-undone_by s l None = other_undone s l
+undone_by s l None = changeless_undone s l
 
 -- the commits of a line that is refused
 abbrev pub undone : State → Line → List Stored
 undone s l = undone_by s l (change_of l)
 
-abbrev pub unless_refused : Option Refused → List Stored → List Stored → List Stored
-unless_refused None refused made = made
-unless_refused (Some why) refused made = refused
-
 -- the commits of a line: a refused line has none, but where a backup had started
 abbrev pub commits_of : State → Line → List Stored
-commits_of s l = unless_refused (refusal s l) (undone s l) (commits_by s l (change_of l))
+commits_of s l = unless_refused (refusal s l) (undone s l) (done_by s l (change_of l))
 
 -- ---- lines
 

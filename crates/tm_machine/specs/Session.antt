@@ -3,7 +3,7 @@ use Rattle.std.specs.Prelude.{◌≡◌, ◌≤◌, ℕ, false, Option, Some, No
 use Rattle.std.specs.Option.{option_map}
 use Rattle.tm_base.specs.declared.refused.LineFault.{LineFault}
 use Rattle.tm_base.specs.declared.refused.LineFault.TheVariants.{Refused, Fault, Memory}
-use Rattle.tm_base.specs.declared.refused.Side.{Side as Named}
+use Rattle.tm_base.specs.Limits.{max_blocks}
 use Rattle.tm_base.specs.declared.refused.Side.TheVariants as named
 use Rattle.tm_reply.specs.declared.row.ReplyRow.{ReplyRow}
 use Rattle.tm_tree.specs.Refusing.{Tests, first_refused}
@@ -17,12 +17,12 @@ use Rattle.tm_world.specs.declared.world.Part.TheVariants as part
 use Rattle.tm_world.specs.declared.world.Side.{Side}
 use Rattle.tm_world.specs.declared.world.Side.TheVariants.{Volume as VolumeSide, Store as StoreSide}
 use Rattle.tm_image.specs.Seen.{Stands}
-use Rattle.tm_store.specs.Sides.{IsBlank as IsStoreBlank}
-use Rattle.tm_store_records.specs.Held.{Held, IsWhole, stored_on as store_stored_on}
+use Rattle.tm_store.specs.Sides.{IsStoreBlank}
+use Rattle.tm_store_records.specs.Held.{Held, IsWhole, store_stored_on}
 use Rattle.tm_text.specs.declared.line.Line.{Line}
 use Rattle.tm_machine.specs.Changing.{change_of}
-use Rattle.tm_machine.specs.Commits.{commits_by, other_commits, other_undone, undone, unless_refused}
-use Rattle.tm_machine.specs.Steps.{after, left, other_after, other_left, other_tests, rows, tests}
+use Rattle.tm_machine.specs.Commits.{done_by, changeless_commits, changeless_undone, undone}
+use Rattle.tm_machine.specs.Steps.{after, after_refused, changeless_after, changeless_after_refused, changeless_tests, rows, tests, unless_refused}
 use Rattle.tm_machine.specs.States.{State, Stored, kept}
 use Rattle.tm_machine.specs.Stops.{LeavesCommits, LeavesPair}
 
@@ -76,11 +76,11 @@ pub record IsIdle (h : Held) (blocks : ℕ) : Type 0 where
 -- the sides have so many blocks, the volume is sound and may be changed, and so may the store
 pub record IsOpen (m : Seen) (blocks : Side → ℕ) : Type 0 where
   pub count : blocks VolumeSide ≡ m.volume_blocks
-  pub small : m.volume_blocks ≤ 262144
+  pub small : m.volume_blocks ≤ max_blocks
   pub sound : IfSome m.volume IsKept
   pub ready : IfSome m.volume (λ v. IsReady v m.volume_blocks)
   pub store_count : blocks StoreSide ≡ m.store_blocks
-  pub store_small : m.store_blocks ≤ 262144
+  pub store_small : m.store_blocks ≤ max_blocks
   pub idle : IfSome m.store (λ h. IsIdle h m.store_blocks)
 
 -- whatever pair a stop leaves of the disks on which a session stands reads as what is kept of it
@@ -99,11 +99,6 @@ pub record Alike (m new : Seen) : Type 0 where
   pub store_same : new.store ≡ m.store
   pub moment_same : new.moment ≡ m.moment
 
--- the part whose count of faults rises where this side fails
-abbrev pub part_of : Named → Part
-part_of named.Volume = part.Volume
-part_of named.Store = part.Store
-
 -- ---- what a line does
 
 -- a fact that holds where a line was done or refused
@@ -120,31 +115,31 @@ pub record Effect : Type 0 where
   pub rows : List ReplyRow
   pub after : State
   pub commits : List Stored
-  pub left : State
+  pub after_refused : State
   pub undone : List Stored
 
 -- a line that changes nothing where it is refused
 abbrev pub effect : Tests → List ReplyRow → State → List Stored → State → Effect
-effect tested rows after commits s = record { tested = tested; rows = rows; after = after; commits = commits; left = s; undone = [] }
+effect tested rows after commits s = record { tested = tested; rows = rows; after = after; commits = commits; after_refused = s; undone = [] }
 
 -- that of a line
-abbrev pub other_effect : State → Line → Effect
-other_effect s l = record {
-  tested = other_tests s l;
+abbrev pub changeless_effect : State → Line → Effect
+changeless_effect s l = record {
+  tested = changeless_tests s l;
   rows = rows s l;
-  after = other_after s l;
-  commits = other_commits s l;
-  left = other_left s l;
-  undone = other_undone s l;
+  after = changeless_after s l;
+  commits = changeless_commits s l;
+  after_refused = changeless_after_refused s l;
+  undone = changeless_undone s l;
 }
 
 abbrev pub line_effect : State → Line → Effect
-line_effect s l = record { tested = tests s l; rows = rows s l; after = after s l; commits = commits_by s l (change_of l); left = left s l; undone = undone s l }
+line_effect s l = record { tested = tests s l; rows = rows s l; after = after s l; commits = done_by s l (change_of l); after_refused = after_refused s l; undone = undone s l }
 
 -- done exactly where no test refuses it, with its data lines and its state; refused where one does
 abbrev pub Replies : Effect → State → Result (List ReplyRow) LineFault → Type 0
 Replies d new (Ok found) = (first_refused d.tested ≡ None) × (found ≡ d.rows) × (new ≡ d.after)
-Replies d new (Err (Refused why)) = (first_refused d.tested ≡ Some why) × (new ≡ d.left)
+Replies d new (Err (Refused why)) = (first_refused d.tested ≡ Some why) × (new ≡ d.after_refused)
 Replies d new (Err (Fault side)) = Unit {0}
 Replies d new (Err Memory) = Unit {0}
 

@@ -5,6 +5,7 @@ use Rattle.std.specs.Option.{option_map, option_map_or}
 use Rattle.tm_base.specs.Paths.{Names, same_name}
 use Rattle.tm_base.specs.declared.refused.Refused.{Refused}
 use Rattle.tm_base.specs.declared.refused.Refused.TheVariants.{NoVolume, NoStore, Already, Small, IsFolder, Full, DateNotLater, ClockBack, NoSnapshot, IdsSpent, IdTaken, NotBuilt}
+use Rattle.tm_base.specs.Limits.{min_blocks, max_snapshots, max_nodes}
 use Rattle.tm_reply.specs.declared.reply.Reply.{Reply}
 use Rattle.tm_reply.specs.declared.row.ReplyRow.{ReplyRow}
 use Rattle.tm_reply.specs.declared.row.ReplyRow.TheVariants as row
@@ -20,7 +21,7 @@ use Rattle.tm_tree.specs.States.{VolumeState, StoreState, Snapshot, new_store, l
 use Rattle.tm_tree.specs.Trees.{Tree}
 use Rattle.tm_tree.specs.Views.{view}
 use Rattle.tm_tree.specs.Walks.{way, is_at_folder}
-use Rattle.tm_volume.specs.Changes as volume
+use Rattle.tm_changes.specs.Changes as volume
 use Rattle.tm_volume.specs.Stored.{StoredVolume, new_stored}
 use Rattle.tm_image.specs.Room.{need_of}
 use Rattle.tm_store_records.specs.Sizes.{table_blocks, free_blocks, node_count}
@@ -54,26 +55,18 @@ abbrev pub is_taken : Option StoreState → ℕ → Bool
 is_taken None id = false
 is_taken (Some store) id = list_any (λ s. s.id == id) store.snapshots
 
--- blocks of an image that can be formatted
-abbrev pub least_blocks : ℕ
-least_blocks = 8
-
 abbrev pub new_volume_tests : State → ℕ → Tests
 new_volume_tests s id =
     (is_some s.volume, Already)
-    ∷ (nat_lt s.volume_blocks least_blocks, Small)
+    ∷ (nat_lt s.volume_blocks min_blocks, Small)
     ∷ needs_moment s.moment ++ (is_taken (store_in s.store) id, IdTaken) ∷ []
 
 abbrev pub new_store_tests : State → Tests
-new_store_tests s = (is_some s.store, Already) ∷ (nat_lt s.store_blocks least_blocks, Small) ∷ []
+new_store_tests s = (is_some s.store, Already) ∷ (nat_lt s.store_blocks min_blocks, Small) ∷ []
 
 -- a file or link is needed at p
 abbrev pub content_tests : Tree → Names → Tests
 content_tests t p = item_tests t p ++ (is_at_folder (way t p), IsFolder) ∷ []
-
--- snapshots of a store
-abbrev pub most_snapshots : ℕ
-most_snapshots = 1024
 
 -- the moment is not later than the last snapshot's date
 abbrev pub date_tests : Option Snapshot → Option ℕ → Tests
@@ -82,7 +75,7 @@ date_tests _ _ = []
 
 abbrev pub backup_tests : StoreState → Option ℕ → Tests
 backup_tests store moment =
-    too_many most_snapshots (length store.snapshots + 1)
+    too_many max_snapshots (length store.snapshots + 1)
     ++ date_tests (latest store) moment
     ++ needs_moment moment
     ++ (nat_le (2 ^ 40) store.number, IdsSpent) ∷ []
@@ -90,10 +83,6 @@ backup_tests store moment =
 -- a backup that would not start
 abbrev pub start_tests : State → Tests
 start_tests s = on_volume s.volume (λ _. on_store (store_in s.store) (λ store. backup_tests store s.moment))
-
--- nodes of a store
-abbrev pub most_nodes : ℕ
-most_nodes = 262144
 
 -- files of so many blocks are staged one after the other, where the table takes t blocks
 abbrev pub staging_tests : ℕ → ℕ → List ℕ → Tests
@@ -112,7 +101,7 @@ abbrev pub walk_by : StoreState → ℕ → StoreState → VolumeState → Tests
 walk_by new blocks store v =
     let staged = staging (base store v.id) (view v.contents.fixed v.contents.tree) in
     staging_tests (table_blocks store) (free_blocks blocks store) staged
-    ++ too_many most_nodes (node_count new)
+    ++ too_many max_nodes (node_count new)
     ++ finish_tests blocks store new (sum staged)
 
 abbrev pub walk_tests : ℕ → StoreState → VolumeState → ℕ → Tests
@@ -142,19 +131,19 @@ place_tests store (place.Snapshot at) = snapshot_tests (named_snapshot store at)
 place_tests store (place.Item item) = stored_tests item_tests (holding_snapshot store item) item.path
 
 -- the lines that change no contents of a volume
-abbrev pub other_tests : State → Line → Tests
-other_tests s (line.At date) = clock_tests s.moment date
-other_tests s (line.NewVolume name id events) = new_volume_tests s id
-other_tests s (line.NewStore machine) = new_store_tests s
-other_tests s (line.Ls p) = on_volume s.volume (λ v. item_tests v.volume.contents.tree p)
-other_tests s (line.Cat p) = on_volume s.volume (λ v. content_tests v.volume.contents.tree p)
-other_tests s line.StartBackupBlock = whole_tests s
-other_tests s line.ListBackups = on_store (store_in s.store) (λ store. [])
-other_tests s line.LatestBackup = on_store (store_in s.store) (λ store. snapshot_tests (latest store))
-other_tests s line.MachineDirectory = on_store (store_in s.store) (λ store. [])
-other_tests s (line.StoreLs at) = on_store (store_in s.store) (λ store. place_tests store at)
-other_tests s (line.StoreCat item) = on_store (store_in s.store) (λ store. stored_tests content_tests (holding_snapshot store item) item.path)
-other_tests s _ = not_built
+abbrev pub changeless_tests : State → Line → Tests
+changeless_tests s (line.At date) = clock_tests s.moment date
+changeless_tests s (line.NewVolume name id events) = new_volume_tests s id
+changeless_tests s (line.NewStore machine) = new_store_tests s
+changeless_tests s (line.Ls p) = on_volume s.volume (λ v. item_tests v.volume.contents.tree p)
+changeless_tests s (line.Cat p) = on_volume s.volume (λ v. content_tests v.volume.contents.tree p)
+changeless_tests s line.StartBackupBlock = whole_tests s
+changeless_tests s line.ListBackups = on_store (store_in s.store) (λ store. [])
+changeless_tests s line.LatestBackup = on_store (store_in s.store) (λ store. snapshot_tests (latest store))
+changeless_tests s line.MachineDirectory = on_store (store_in s.store) (λ store. [])
+changeless_tests s (line.StoreLs at) = on_store (store_in s.store) (λ store. place_tests store at)
+changeless_tests s (line.StoreCat item) = on_store (store_in s.store) (λ store. stored_tests content_tests (holding_snapshot store item) item.path)
+changeless_tests s _ = not_built
 
 -- a line that changes the contents of the volume
 abbrev pub change_tests : State → Change → Tests
@@ -162,7 +151,7 @@ change_tests s c = on_volume s.volume (λ v. volume.change_tests s.volume_blocks
 
 abbrev pub tests_by : State → Line → Option Change → Tests
 tests_by s l (Some c) = change_tests s c
-tests_by s l None = other_tests s l
+tests_by s l None = changeless_tests s l
 
 -- a change of the volume's contents is refused as the change is
 abbrev pub tests : State → Line → Tests
@@ -203,24 +192,24 @@ abbrev pub backed : Option StoredVolume → Option StoredStore → Option ℕ �
 backed (Some v) (Some z) (Some date) = Some (at_rest (backed_up z.store v.volume date))
 backed _ z _ = z
 
-abbrev pub other_after : State → Line → State
-other_after s (line.At date) = record s { moment = Some date }
-other_after s (line.NewVolume name id events) = record s { volume = Some (new_stored name id events (unwrap_or s.moment 0)) }
-other_after s (line.NewStore machine) = record s { store = Some (at_rest (new_store machine)) }
-other_after s line.StartBackupBlock = record s { store = backed s.volume s.store s.moment }
-other_after s _ = s
+abbrev pub changeless_after : State → Line → State
+changeless_after s (line.At date) = record s { moment = Some date }
+changeless_after s (line.NewVolume name id events) = record s { volume = Some (new_stored name id events (unwrap_or s.moment 0)) }
+changeless_after s (line.NewStore machine) = record s { store = Some (at_rest (new_store machine)) }
+changeless_after s line.StartBackupBlock = record s { store = backed s.volume s.store s.moment }
+changeless_after s _ = s
 
 abbrev pub changed : State → Change → State
 changed s c = record s { volume = option_map (λ v. volume.changed v c s.moment) s.volume }
 
 abbrev pub after_by : State → Line → Option Change → State
 after_by s l (Some c) = changed s c
-after_by s l None = other_after s l
+after_by s l None = changeless_after s l
 
 abbrev pub after : State → Line → State
 after s l = after_by s l (change_of l)
 
--- ---- what a line leaves that is refused
+-- ---- the state after a refused line
 
 -- a backup that had started, and no date
 abbrev pub ended : Option Refused → State → State
@@ -228,16 +217,16 @@ ended None s = record s { store = option_map (λ z. at_rest z.store) s.store }
 ended (Some why) s = s
 
 -- a refused line changes nothing, but that a backup which had started has ended
-abbrev pub other_left : State → Line → State
-other_left s line.StartBackupBlock = ended (first_refused (start_tests s)) s
-other_left s _ = s
+abbrev pub changeless_after_refused : State → Line → State
+changeless_after_refused s line.StartBackupBlock = ended (first_refused (start_tests s)) s
+changeless_after_refused s _ = s
 
-abbrev pub left_by : State → Line → Option Change → State
-left_by s l (Some c) = s
-left_by s l None = other_left s l
+abbrev pub after_refused_by : State → Line → Option Change → State
+after_refused_by s l (Some c) = s
+after_refused_by s l None = changeless_after_refused s l
 
-abbrev pub left : State → Line → State
-left s l = left_by s l (change_of l)
+abbrev pub after_refused : State → Line → State
+after_refused s l = after_refused_by s l (change_of l)
 
 -- ---- the step
 
@@ -249,10 +238,11 @@ answer (Some why) data_lines = record { rows = []; refused = Some why }
 abbrev pub reply : State → Line → Reply
 reply s l = answer (refusal s l) (rows s l)
 
-abbrev pub unless_refused : Option Refused → State → State → State
-unless_refused None old new = new
-unless_refused (Some why) old new = old
+-- what a line makes of a thing, or where it is refused what it leaves
+abbrev pub unless_refused : {A : Type 0} → Option Refused → A → A → A
+unless_refused None refused made = made
+unless_refused (Some why) refused made = refused
 
 -- the state after a line
 abbrev pub step : State → Line → State
-step s l = unless_refused (refusal s l) (left s l) (after s l)
+step s l = unless_refused (refusal s l) (after_refused s l) (after s l)

@@ -2,12 +2,12 @@
 use Rattle.std.specs.Prelude.{◌≡◌, false, ℕ, ◌≤◌, Option, None, List, length, take}
 use Rattle.std.specs.List.{All}
 use Rattle.std.specs.Option.{option_map}
-use Rattle.tm_base.specs.declared.refused.Side.{Side as Named}
+use Rattle.tm_base.specs.declared.refused.Side.{Side as RefusedSide}
 use Rattle.tm_base.specs.declared.refused.Side.TheVariants as named
 use Rattle.tm_store_records.specs.States.{StoreFails}
 use Rattle.tm_volume.specs.Answers.{IsSpent, FailsVolume}
 use Rattle.tm_world.specs.declared.cause.Cause.{Cause}
-use Rattle.tm_store.specs.Sides.{SideReads as StoreSideReads}
+use Rattle.tm_store.specs.Sides.{StoreSideReads}
 use Rattle.tm_store_records.specs.States.{StoredStore}
 use Rattle.tm_volume.specs.Reads.{LeavesEither, SideReads}
 use Rattle.tm_volume.specs.Stored.{StoredVolume, reopened}
@@ -75,7 +75,7 @@ abbrev pub LeavesPair : Stored → Outside → Type 0
 LeavesPair r now = (v z : Image) → IsLeft (disk VolumeSide now) v → IsLeft (disk StoreSide now) z → PairReads r v z
 
 -- a check of a side's image fails; the store's is read where the volume can be opened
-abbrev pub IsBadSide : Named → Cause → ℕ → ℕ → ℕ → Type 0 → Outside → Type 0
+abbrev pub IsBadSide : RefusedSide → Cause → ℕ → ℕ → ℕ → Type 0 → Outside → Type 0
 IsBadSide named.Volume cause place volume_blocks store_blocks told o = (3 ≤ volume_blocks) × (told → FailsVolume (as_read (disk VolumeSide o)) cause place)
 IsBadSide named.Store cause place volume_blocks store_blocks told o =
     (3 ≤ store_blocks) × (told → CanOpen (as_read (disk VolumeSide o)) × StoreFails (as_read (disk StoreSide o)) cause place)

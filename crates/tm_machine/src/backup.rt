@@ -1,34 +1,31 @@
 //! Backups.
-ghost use Rattle.std.specs.Prelude.{◌≡◌, ◌≤◌, [], ℕ, List, Some, None, Err, IfOk, OnOk, IfSome, length};
-ghost use Rattle.tm_base.specs.declared.refused.Side.{Side as Named};
+ghost use Rattle.std.specs.Prelude.{◌≡◌, ◌≤◌, [], ℕ, List, Some, None, Err, IfOk, length};
 ghost use Rattle.tm_image.specs.Seen.{Stands};
 ghost use Rattle.tm_store.specs.Answers.{IfRefused};
-ghost use Rattle.tm_store_records.specs.Held.{IsWhole, MayFinish, store_on, stored_on};
+ghost use Rattle.tm_store_records.specs.Held.{IsWhole, MayFinish, store_on, store_stored_on};
 ghost use Rattle.tm_volume.specs.Seen.{IsKept, IsReady, StandsOn, stored_on as volume_stored_on};
-ghost use Rattle.tm_world.specs.Faults.{NeverLess, Rose};
+ghost use Rattle.tm_world.specs.Faults.{NeverLess, Blames};
 ghost use Rattle.tm_world.specs.Log.{now};
 ghost use Rattle.tm_world.specs.Outside.{AreApart, disk};
 ghost use Rattle.tm_world.specs.Runs.{Runs};
 ghost use Rattle.tm_world.specs.declared.world.Side.TheVariants.{Volume as VolumeSide, Store as StoreSide};
 ghost use Rattle.tm_machine.specs.Allowed.{Did, MayBackUp};
 ghost use Rattle.tm_machine.specs.Backups.{ComesLater, DoesBackup, DoesCopy, Starts};
-ghost use Rattle.tm_machine.specs.Session.{IfReplied, IsIdle, IsOpen, Standing, part_of, state_on};
+ghost use Rattle.tm_machine.specs.Session.{IfReplied, IsIdle, IsOpen, Standing, state_on};
 
 use crate::session::Session;
 use std::alloc::Global;
 use tm_backup::{Copied, copy_volume};
+use tm_base::limits::MAX_SNAPSHOTS;
 use tm_base::{LineFault, Moment, Refused, Side};
 use tm_reply::{ReplyRow, ReplyRows};
+use tm_snapshot::completed_is_sized;
 use tm_store::Store;
-use tm_store_growth::completed_is_sized;
 use tm_store_records::{held_is_store, held_sizes};
 use tm_tree::Mark;
 use tm_volume::Volume;
 use tm_volume::laws::standing_volume_is_left;
 use tm_world::{Failed, World};
-
-/// The most snapshots of a store.
-const MOST_SNAPSHOTS: usize = 1024;
 
 /// The number at which backups end.
 const LAST_NUMBER: u64 = 1 << 40;
@@ -53,7 +50,7 @@ fn start_date(store: &Store, moment: Option<Moment>) -> Result<Moment, Refused>
     ensures may { IfOk result (MayFinish store.now) }
 {
     let count = store.snapshots().as_slice().len();
-    if count >= MOST_SNAPSHOTS {
+    if count >= MAX_SNAPSHOTS {
         return Err(Refused::TooMany {
             count: count as u128 + 1,
         });
@@ -78,7 +75,7 @@ impl Session {
         ensures open { IfReplied result (IsOpen self.new (W.blocks world.new)) }
         ensures blocks { W.blocks world.new ≡ W.blocks world.old }
         ensures never_less { NeverLess (W.faults world.old) (W.faults world.new) }
-        ensures fault { (side : Named) → result ≡ Err (LineFault.Fault side) → Rose (W.faults world.old (part_of side)) (W.faults world.new (part_of side)) }
+        ensures fault { Blames result (W.faults world.old) (W.faults world.new) }
     {
         standing_volume_is_left();
         let moment = self.moment;
@@ -88,10 +85,7 @@ impl Session {
         let Some(store) = &mut self.store else {
             return Err(LineFault::Refused(Refused::NoStore));
         };
-        let date = match start_date(store, moment) {
-            Ok(date) => date,
-            Err(why) => return Err(LineFault::Refused(why)),
-        };
+        let date = start_date(store, moment)?;
         run_backup(self.alloc, world, volume, store, date)
     }
 }
@@ -111,15 +105,15 @@ fn run_backup<W: World>(
     requires apart { W.told → AreApart (now (W.log world.old)) }
     requires volume_stands { W.told → StandsOn volume.old (disk VolumeSide (now (W.log world.old))) }
     requires stands { W.told → Stands store.old.image (disk StoreSide (now (W.log world.old))) }
-    ensures does { W.told → let s = stored_on store.old (disk StoreSide (now (W.log world.old))).bytes in let v = volume_stored_on volume.old (disk VolumeSide (now (W.log world.old))).bytes in
-        DoesBackup (W.blocks world.old StoreSide) s v date (stored_on store.new (disk StoreSide (now (W.log world.new))).bytes) (W.log world.old) (W.log world.new) result }
+    ensures does { W.told → let s = store_stored_on store.old (disk StoreSide (now (W.log world.old))).bytes in let v = volume_stored_on volume.old (disk VolumeSide (now (W.log world.old))).bytes in
+        DoesBackup (W.blocks world.old StoreSide) s v date (store_stored_on store.new (disk StoreSide (now (W.log world.new))).bytes) (W.log world.old) (W.log world.new) result }
     ensures alone { W.told → Runs StoreSide (λ _. Unit {0}) (W.log world.old) (W.log world.new) }
     ensures stands { W.told → IfReplied result (Stands store.new.image (disk StoreSide (now (W.log world.new)))) }
     ensures idle { IfReplied result (IsIdle store.new (W.blocks world.old StoreSide)) }
     ensures volume { volume.new ≡ record volume.old { looks = volume.new.looks } }
     ensures blocks { W.blocks world.new ≡ W.blocks world.old }
     ensures never_less { NeverLess (W.faults world.old) (W.faults world.new) }
-    ensures fault { (side : Named) → result ≡ Err (LineFault.Fault side) → Rose (W.faults world.old (part_of side)) (W.faults world.new (part_of side)) }
+    ensures fault { Blames result (W.faults world.old) (W.faults world.new) }
 {
     match store.begin(world, date) {
         Ok(()) => {}
@@ -154,7 +148,7 @@ fn copy_and_finish<W: World>(
     requires volume_stands { W.told → StandsOn volume.old (disk VolumeSide (now (W.log world.old))) }
     requires stands { W.told → Stands store.old.image (disk StoreSide (now (W.log world.old))) }
     ensures does { W.told → let s = store_on store.old (disk StoreSide (now (W.log world.old))).bytes in let v = volume_stored_on volume.old (disk VolumeSide (now (W.log world.old))).bytes in
-        DoesCopy (W.blocks world.old StoreSide) s v date (stored_on store.new (disk StoreSide (now (W.log world.new))).bytes) (W.log world.old) (W.log world.new) result }
+        DoesCopy (W.blocks world.old StoreSide) s v date (store_stored_on store.new (disk StoreSide (now (W.log world.new))).bytes) (W.log world.old) (W.log world.new) result }
     ensures alone { W.told → Runs StoreSide (λ _. Unit {0}) (W.log world.old) (W.log world.new) }
     ensures stands { W.told → IfReplied result (Stands store.new.image (disk StoreSide (now (W.log world.new)))) }
     ensures whole { IfReplied result (IsWhole store.new) }
@@ -164,7 +158,7 @@ fn copy_and_finish<W: World>(
     ensures volume { volume.new ≡ record volume.old { looks = volume.new.looks } }
     ensures blocks { W.blocks world.new ≡ W.blocks world.old }
     ensures never_less { NeverLess (W.faults world.old) (W.faults world.new) }
-    ensures fault { (side : Named) → result ≡ Err (LineFault.Fault side) → Rose (W.faults world.old (part_of side)) (W.faults world.new (part_of side)) }
+    ensures fault { Blames result (W.faults world.old) (W.faults world.new) }
 {
     held_is_store();
     held_sizes();

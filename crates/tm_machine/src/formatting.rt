@@ -1,17 +1,18 @@
 //! The lines that format an image.
 ghost use Rattle.std.specs.Prelude.{◌≡◌, ◌==◌, ◌≤◌, [], ◌∷◌, Err, Some, ℕ, unwrap_or};
 ghost use Rattle.std.specs.List.{list_any};
-ghost use Rattle.tm_base.specs.declared.refused.Side.{Side as Named};
 ghost use Rattle.tm_tree.specs.States.{new_store};
 ghost use Rattle.tm_volume.specs.Stored.{new_stored};
-ghost use Rattle.tm_world.specs.Faults.{NeverLess, Rose};
+ghost use Rattle.tm_world.specs.Faults.{NeverLess, Blames};
 ghost use Rattle.tm_world.specs.Log.{now};
 ghost use Rattle.tm_world.specs.Outside.{Outside};
-ghost use Rattle.tm_machine.specs.Session.{Does, IfReplied, IsOpen, Standing, effect, part_of, state_on};
+ghost use Rattle.tm_machine.specs.Session.{Does, IfReplied, IsOpen, Standing, effect, state_on};
 ghost use Rattle.tm_machine.specs.States.{kept, store_in};
 ghost use Rattle.tm_machine.specs.Steps.{at_rest, is_taken, new_store_tests, new_volume_tests};
+ghost use Rattle.tm_base.specs.Limits.{max_events};
 
 use crate::session::Session;
+use tm_base::limits::MIN_BLOCKS;
 use tm_base::{LineFault, Name, Refused};
 use tm_reply::ReplyRows;
 use tm_store::laws::{blank_is_left, none_or_store};
@@ -19,9 +20,6 @@ use tm_store::{Snapshot, Store, held_reads};
 use tm_volume::Volume;
 use tm_volume::laws::{blank_is_left as volume_blank_is_left, standing_volume_is_left};
 use tm_world::World;
-
-/// The fewest blocks of an image that can be formatted.
-const LEAST_BLOCKS: u32 = 8;
 
 impl Session {
     /// `newvolume`.
@@ -32,7 +30,7 @@ impl Session {
         id: u128,
         events: u32,
     ) -> Result<ReplyRows, LineFault>
-        requires events { (1 ≤ events) × (events ≤ 65536) }
+        requires events { (1 ≤ events) × (events ≤ max_events) }
         requires open { IsOpen self.old (W.blocks world.old) }
         requires standing { W.told → Standing self.old (now (W.log world.old)) }
         ensures does { W.told → let s = state_on self.old (now (W.log world.old)) in
@@ -41,7 +39,7 @@ impl Session {
         ensures open { IfReplied result (IsOpen self.new (W.blocks world.new)) }
         ensures blocks { W.blocks world.new ≡ W.blocks world.old }
         ensures never_less { NeverLess (W.faults world.old) (W.faults world.new) }
-        ensures fault { (side : Named) → result ≡ Err (LineFault.Fault side) → Rose (W.faults world.old (part_of side)) (W.faults world.new (part_of side)) }
+        ensures fault { Blames result (W.faults world.old) (W.faults world.new) }
     {
         standing_volume_is_left();
         volume_blank_is_left();
@@ -50,7 +48,7 @@ impl Session {
         if self.volume.is_some() {
             return Err(LineFault::Refused(Refused::Already));
         }
-        if self.volume_blocks < LEAST_BLOCKS {
+        if self.volume_blocks < MIN_BLOCKS {
             return Err(LineFault::Refused(Refused::Small));
         }
         let Some(moment) = self.moment else {
@@ -60,10 +58,7 @@ impl Session {
             return Err(LineFault::Refused(Refused::IdTaken));
         }
         let blocks = self.volume_blocks;
-        let volume = match Volume::blank(self.alloc, world, blocks, name, id, events, moment) {
-            Ok(volume) => volume,
-            Err(why) => return Err(why),
-        };
+        let volume = Volume::blank(self.alloc, world, blocks, name, id, events, moment)?;
         // The rules that it keeps come with what it says of itself.
         let _ = volume.info();
         self.volume = Some(volume);
@@ -84,7 +79,7 @@ impl Session {
         ensures open { IfReplied result (IsOpen self.new (W.blocks world.new)) }
         ensures blocks { W.blocks world.new ≡ W.blocks world.old }
         ensures never_less { NeverLess (W.faults world.old) (W.faults world.new) }
-        ensures fault { (side : Named) → result ≡ Err (LineFault.Fault side) → Rose (W.faults world.old (part_of side)) (W.faults world.new (part_of side)) }
+        ensures fault { Blames result (W.faults world.old) (W.faults world.new) }
     {
         standing_volume_is_left();
         volume_blank_is_left();
@@ -94,13 +89,10 @@ impl Session {
         if self.store.is_some() {
             return Err(LineFault::Refused(Refused::Already));
         }
-        if self.store_blocks < LEAST_BLOCKS {
+        if self.store_blocks < MIN_BLOCKS {
             return Err(LineFault::Refused(Refused::Small));
         }
-        let store = match Store::blank(self.alloc, world, self.store_blocks, machine) {
-            Ok(store) => store,
-            Err(why) => return Err(why),
-        };
+        let store = Store::blank(self.alloc, world, self.store_blocks, machine)?;
         self.store = Some(store);
         Ok(ReplyRows::new(self.alloc))
     }

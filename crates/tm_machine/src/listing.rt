@@ -1,7 +1,7 @@
 //! The data lines of items on the volume.
-ghost use Rattle.std.specs.Prelude.{◌≡◌, ◌∷◌, [], ◌++◌, ℕ, List, true, IfOk, OnOk, Ok, Err, map, if◌then◌else◌};
+ghost use Rattle.std.specs.Prelude.{if◌then◌else◌, ◌≡◌, ◌∷◌, [], ◌++◌, ℕ, List, true, IfOk, OnOk, Ok, Err, map};
 ghost use Rattle.tm_base.specs.declared.refused.Refused.{Refused};
-ghost use Rattle.tm_base.specs.declared.refused.Side.{Side as Named};
+ghost use Rattle.tm_base.specs.LineFaults.{NoFault};
 ghost use Rattle.tm_tree.specs.Changes.{item_tests};
 ghost use Rattle.tm_tree.specs.Items.{is_folder};
 ghost use Rattle.tm_tree.specs.Listings.{entries_of, listed, list_rows as rows_of};
@@ -82,13 +82,11 @@ fn folder_row(volume: &Volume, path: &Path, row: &ListRow) -> Result<ReplyRow, L
         → IfOk result (λ found. found ≡ named_row (row.now.name, e)) }
     ensures refused { (bytes : ℕ → List ℕ) (e : Item) (why : Refused) → walk (tree_on volume.now bytes) (path.now ++ row.now.name ∷ []) ≡ Ok e
         → result ≡ Err (LineFault.Refused why) → ⊥ }
-    ensures fault { (side : Named) → result ≡ Err (LineFault.Fault side) → ⊥ }
+    ensures fault { NoFault result }
 {
     let name = ListedName::Entry(row.name.clone()?);
-    match find_entry(volume, path, row) {
-        Ok(found) => Ok(body_row(&found.body, name)?),
-        Err(why) => Err(why),
-    }
+    let found = find_entry(volume, path, row)?;
+    Ok(body_row(&found.body, name)?)
 }
 
 // The line of a folder's entry.
@@ -97,7 +95,7 @@ fn entry_row(volume: &Volume, path: &Path, row: &ListRow) -> Result<ReplyRow, Li
         → IfOk result (λ found. found ≡ named_row (row.now.name, e)) }
     ensures refused { (bytes : ℕ → List ℕ) (e : Item) (why : Refused) → walk (tree_on volume.now bytes) (path.now ++ row.now.name ∷ []) ≡ Ok e
         → result ≡ Err (LineFault.Refused why) → ⊥ }
-    ensures fault { (side : Named) → result ≡ Err (LineFault.Fault side) → ⊥ }
+    ensures fault { NoFault result }
 {
     match &row.kind {
         ListKind::Folder => folder_row(volume, path, row),
@@ -135,13 +133,10 @@ fn push_entries(
         → OnOk result (rows.new ≡ rows.old ++ map named_row (entries_of (tree_on volume.now bytes) path.now)) }
     ensures refused { (bytes : ℕ → List ℕ) (folder : Item) → walk (tree_on volume.now bytes) path.now ≡ Ok folder → is_folder folder ≡ true → entries.now ≡ rows_of (tree_on volume.now bytes) path.now
         → (why : Refused) → result ≡ Err (LineFault.Refused why) → ⊥ }
-    ensures fault { (side : Named) → result ≡ Err (LineFault.Fault side) → ⊥ }
+    ensures fault { NoFault result }
 {
     for row in entries {
-        let line = match entry_row(volume, path, row) {
-            Ok(line) => line,
-            Err(why) => return Err(why),
-        };
+        let line = entry_row(volume, path, row)?;
         rows.push(line)?;
     }
     Ok(())
@@ -152,7 +147,7 @@ fn push_listing(rows: &mut ReplyRows, volume: &mut Volume, path: &Path) -> Resul
     ensures ok { (bytes : ℕ → List ℕ) (e : Item) → walk (tree_on volume.old bytes) path.now ≡ Ok e
         → OnOk result (rows.new ≡ rows.old ++ (if is_folder e then map named_row (entries_of (tree_on volume.old bytes) path.now) else [])) }
     ensures refused { (bytes : ℕ → List ℕ) (e : Item) (why : Refused) → walk (tree_on volume.old bytes) path.now ≡ Ok e → result ≡ Err (LineFault.Refused why) → ⊥ }
-    ensures fault { (side : Named) → result ≡ Err (LineFault.Fault side) → ⊥ }
+    ensures fault { NoFault result }
     ensures same { volume.new ≡ record volume.old { looks = volume.new.looks } }
 {
     let Some(listing) = volume.list(path)? else {
@@ -171,15 +166,10 @@ pub(crate) fn show_item(
     ensures answer { (bytes : ℕ → List ℕ) → AnswersQuery (item_tests (tree_on volume.old bytes) path.now) (list_rows (tree_on volume.old bytes) path.now) result }
     ensures same { volume.new ≡ record volume.old { looks = volume.new.looks } }
 {
-    let row = match volume.find(path) {
-        Ok(row) => row,
-        Err(why) => return Err(why),
-    };
+    let row = volume.find(path)?;
     let mut rows = ReplyRows::new(alloc);
     rows.push(body_row(&row.body, ListedName::Path(path.clone()?))?)?;
     push_extras(&mut rows, attrs_of(&row.body))?;
-    match push_listing(&mut rows, volume, path) {
-        Ok(()) => Ok(rows),
-        Err(why) => Err(why),
-    }
+    push_listing(&mut rows, volume, path)?;
+    Ok(rows)
 }

@@ -1,23 +1,24 @@
 //! Opening a volume.
 ghost use Rattle.std.specs.Prelude.{◌≡◌, ◌≤◌, ◌<◌, ◌+◌, ◌^◌, ◌==◌, IfOk, IfSome, OnOk, OnErr, Err, ℕ, Option, Some, None, false};
 ghost use Rattle.std.specs.Option.{option_map};
-ghost use Rattle.tm_base.specs.declared.refused.Side.{Side as Named};
+ghost use Rattle.tm_base.specs.declared.refused.Side.{Side as RefusedSide};
+ghost use Rattle.tm_base.specs.Limits.{max_blocks};
 ghost use Rattle.tm_volume.specs.Answers.{FailsVolume};
 ghost use Rattle.tm_volume.specs.Reads.{LeavesEither, SideReads};
 ghost use Rattle.tm_volume.specs.Seen.{IsKept, IsReady, StandsOn, stored_on};
 ghost use Rattle.tm_volume.specs.Stored.{StoredVolume, reopened};
-ghost use Rattle.tm_world.specs.Faults.{NeverLess, Rose};
-ghost use Rattle.tm_world.specs.Log.{now, Passes, Steps};
+ghost use Rattle.tm_world.specs.Faults.{NeverLess, Rose, part_at};
+ghost use Rattle.tm_world.specs.Log.{now, Steps};
 ghost use Rattle.tm_world.specs.Runs.{Runs};
 ghost use Rattle.tm_world.specs.Outside.{disk};
 ghost use Rattle.tm_world.specs.Torn.{as_read};
 ghost use Rattle.tm_world.specs.declared.cause.Cause.{Cause};
 ghost use Rattle.tm_world.specs.declared.world.Part.{Part};
 ghost use Rattle.tm_world.specs.declared.world.Side.TheVariants.{Volume as VolumeSide, Store as StoreSide};
-ghost use Rattle.tm_store.specs.Sides.{SideReads as StoreSideReads};
-ghost use Rattle.tm_store_records.specs.Held.{stored_on as store_stored_on};
+ghost use Rattle.tm_store.specs.Sides.{StoreSideReads};
+ghost use Rattle.tm_store_records.specs.Held.{store_stored_on};
 ghost use Rattle.tm_store_records.specs.States.{StoredStore, StoreFails};
-ghost use Rattle.tm_machine.specs.Session.{IsIdle, StoreStands, VolumeStands, part_of};
+ghost use Rattle.tm_machine.specs.Session.{IsIdle, StoreStands, VolumeStands};
 ghost use Rattle.tm_machine.specs.Stops.{CanOpen, CanOpenStore};
 
 use crate::session::SessionError;
@@ -64,7 +65,7 @@ pub(crate) fn open_volume<W: World>(
     blocks: u32,
 ) -> Result<Option<Volume>, SessionError>
     requires count { W.blocks world.old VolumeSide ≡ blocks }
-    requires small { blocks ≤ 262144 }
+    requires small { blocks ≤ max_blocks }
     requires stable { W.told → (b : ℕ) → (disk VolumeSide (now (W.log world.old))).loose b ≡ false }
     ensures any_moment { W.told → (r : Option StoredVolume) → SideReads (as_read (disk VolumeSide (now (W.log world.old)))) r
         → Runs VolumeSide (LeavesEither r (option_map reopened r)) (W.log world.old) (W.log world.new) }
@@ -77,11 +78,11 @@ pub(crate) fn open_volume<W: World>(
     ensures alone { W.told → Runs VolumeSide (λ _. Unit {0}) (W.log world.old) (W.log world.new) }
     ensures blank { W.told → SideReads (as_read (disk VolumeSide (now (W.log world.old)))) None → Steps (W.log world.old) (W.log world.new) (now (W.log world.old)) }
     ensures shut { W.told → (CanOpen (as_read (disk VolumeSide (now (W.log world.old)))) → ⊥) → Steps (W.log world.old) (W.log world.new) (now (W.log world.old)) }
-    ensures bad { (side : Named) (cause : Cause) (place : ℕ) → result ≡ Err (SessionError.Bad side cause place)
-        → (side ≡ Named.Volume) × (3 ≤ blocks) × (W.told → FailsVolume (as_read (disk VolumeSide (now (W.log world.old)))) cause place) }
+    ensures bad { (side : RefusedSide) (cause : Cause) (place : ℕ) → result ≡ Err (SessionError.Bad side cause place)
+        → (side ≡ RefusedSide.Volume) × (3 ≤ blocks) × (W.told → FailsVolume (as_read (disk VolumeSide (now (W.log world.old)))) cause place) }
     ensures blocks { W.blocks world.new ≡ W.blocks world.old }
     ensures never_less { NeverLess (W.faults world.old) (W.faults world.new) }
-    ensures fault { (side : Named) → result ≡ Err (SessionError.Fault side) → Rose (W.faults world.old (part_of side)) (W.faults world.new (part_of side)) }
+    ensures fault { (side : RefusedSide) → result ≡ Err (SessionError.Fault side) → Rose (W.faults world.old (part_at side)) (W.faults world.new (part_at side)) }
 {
     volume_sides_read_as_one();
     standing_volume_is_left();
@@ -109,7 +110,7 @@ pub(crate) fn open_store<W: World>(
     blocks: u32,
 ) -> Result<Option<Store>, SessionError>
     requires count { W.blocks world.old StoreSide ≡ blocks }
-    requires small { blocks ≤ 262144 }
+    requires small { blocks ≤ max_blocks }
     requires stable { W.told → (b : ℕ) → (disk StoreSide (now (W.log world.old))).loose b ≡ false }
     ensures state { W.told → (r : Option StoredStore) → StoreSideReads (as_read (disk StoreSide (now (W.log world.old)))) r
         → IfOk result (λ z. option_map (λ h. store_stored_on h (disk StoreSide (now (W.log world.new))).bytes) z ≡ r) }
@@ -117,11 +118,11 @@ pub(crate) fn open_store<W: World>(
     ensures idle { IfOk result (λ z. IfSome z (λ h. IsIdle h blocks)) }
     ensures stands { W.told → IfOk result (λ z. StoreStands z (disk StoreSide (now (W.log world.new)))) }
     ensures steps { W.told → Steps (W.log world.old) (W.log world.new) (now (W.log world.old)) }
-    ensures bad { (side : Named) (cause : Cause) (place : ℕ) → result ≡ Err (SessionError.Bad side cause place)
-        → (side ≡ Named.Store) × (3 ≤ blocks) × (W.told → StoreFails (as_read (disk StoreSide (now (W.log world.old)))) cause place) }
+    ensures bad { (side : RefusedSide) (cause : Cause) (place : ℕ) → result ≡ Err (SessionError.Bad side cause place)
+        → (side ≡ RefusedSide.Store) × (3 ≤ blocks) × (W.told → StoreFails (as_read (disk StoreSide (now (W.log world.old)))) cause place) }
     ensures blocks { W.blocks world.new ≡ W.blocks world.old }
     ensures never_less { NeverLess (W.faults world.old) (W.faults world.new) }
-    ensures fault { (side : Named) → result ≡ Err (SessionError.Fault side) → Rose (W.faults world.old (part_of side)) (W.faults world.new (part_of side)) }
+    ensures fault { (side : RefusedSide) → result ≡ Err (SessionError.Fault side) → Rose (W.faults world.old (part_at side)) (W.faults world.new (part_at side)) }
 {
     sides_read_as_one();
     match Store::load(alloc, world, blocks) {

@@ -1,18 +1,19 @@
 //! The session: loading, its lines, and the close.
-ghost use Rattle.std.specs.Prelude.{◌≡◌, ◌≤◌, [], IfOk, OnOk, Ok, Err, ℕ, Option, Some, None};
-ghost use Rattle.tm_base.specs.declared.refused.Side.{Side as Named};
+ghost use Rattle.std.specs.Prelude.{◌≡◌, ◌≤◌, [], IfOk, IfErr, OnOk, Ok, Err, ℕ, Option, Some, None};
+ghost use Rattle.tm_base.specs.declared.refused.Side.{Side as RefusedSide};
+ghost use Rattle.tm_base.specs.Limits.{max_blocks};
 ghost use Rattle.tm_text.specs.Bounds.{IsValidLine};
 ghost use Rattle.tm_volume.specs.Reads.{SideReads};
 ghost use Rattle.tm_volume.specs.Stored.{StoredVolume};
-ghost use Rattle.tm_world.specs.Faults.{NeverLess, Rose};
+ghost use Rattle.tm_world.specs.Faults.{NeverLess, Rose, part_at, Blames};
 ghost use Rattle.tm_world.specs.Log.{now, Passes, Steps};
 ghost use Rattle.tm_world.specs.Outside.{disk};
 ghost use Rattle.tm_world.specs.Torn.{as_read};
 ghost use Rattle.tm_world.specs.declared.cause.Cause.{Cause};
 ghost use Rattle.tm_world.specs.declared.world.Side.TheVariants.{Volume as VolumeSide, Store as StoreSide};
 ghost use Rattle.tm_machine.specs.Commits.{opening};
-ghost use Rattle.tm_machine.specs.Allowed.{Did, DidLine, MayDo, MayDoOther, after_of, reply_of};
-ghost use Rattle.tm_machine.specs.Session.{IfReplied, IsOpen, IsSynced, Standing, part_of, state_on};
+ghost use Rattle.tm_machine.specs.Allowed.{Did, DidLine, MayDo, MayDoChangeless, after_of, reply_of};
+ghost use Rattle.tm_machine.specs.Session.{IfReplied, IsOpen, IsSynced, Standing, state_on};
 ghost use Rattle.tm_machine.specs.States.{Stored, opened};
 ghost use Rattle.tm_machine.specs.Answers.{AnswersBy};
 ghost use Rattle.tm_machine.specs.Steps.{clock_tests};
@@ -92,9 +93,9 @@ impl Session {
         store_blocks: u32,
     ) -> Result<Session, SessionError>
         requires count { W.blocks world.old VolumeSide ≡ volume_blocks }
-        requires small { volume_blocks ≤ 262144 }
+        requires small { volume_blocks ≤ max_blocks }
         requires store_count { W.blocks world.old StoreSide ≡ store_blocks }
-        requires store_small { store_blocks ≤ 262144 }
+        requires store_small { store_blocks ≤ max_blocks }
         requires settled { W.told → IsSynced (now (W.log world.old)) }
         ensures state { W.told → (r : Stored) → ReadsNow r (now (W.log world.old))
             → IfOk result (λ s. state_on s (now (W.log world.new)) ≡ opened volume_blocks store_blocks r) }
@@ -108,21 +109,15 @@ impl Session {
         ensures opens { W.told → IfOk result (λ _. CanOpen (as_read (disk VolumeSide (now (W.log world.old)))) × CanOpenStore (as_read (disk StoreSide (now (W.log world.old))))) }
         ensures open { IfOk result (λ s. IsOpen s (W.blocks world.new)) }
         ensures standing { W.told → IfOk result (λ s. Standing s (now (W.log world.new))) }
-        ensures bad { (side : Named) (cause : Cause) (place : ℕ) → result ≡ Err (SessionError.Bad side cause place)
+        ensures bad { (side : RefusedSide) (cause : Cause) (place : ℕ) → result ≡ Err (SessionError.Bad side cause place)
             → IsBadSide side cause place volume_blocks store_blocks W.told (now (W.log world.old)) }
         ensures said { W.told → (now (W.log world.new)).said ≡ (now (W.log world.old)).said }
         ensures blocks { W.blocks world.new ≡ W.blocks world.old }
         ensures never_less { NeverLess (W.faults world.old) (W.faults world.new) }
-        ensures fault { (side : Named) → result ≡ Err (SessionError.Fault side) → Rose (W.faults world.old (part_of side)) (W.faults world.new (part_of side)) }
+        ensures fault { (side : RefusedSide) → result ≡ Err (SessionError.Fault side) → Rose (W.faults world.old (part_at side)) (W.faults world.new (part_at side)) }
     {
-        let volume = match open_volume(alloc, world, volume_blocks) {
-            Ok(volume) => volume,
-            Err(error) => return Err(error),
-        };
-        let store = match open_store(alloc, world, store_blocks) {
-            Ok(store) => store,
-            Err(error) => return Err(error),
-        };
+        let volume = open_volume(alloc, world, volume_blocks)?;
+        let store = open_store(alloc, world, store_blocks)?;
         Ok(Session {
             alloc,
             volume_blocks,
@@ -151,7 +146,7 @@ impl Session {
         ensures standing { W.told → OnOk result (Standing self.new (now (W.log world.new))) }
         ensures blocks { W.blocks world.new ≡ W.blocks world.old }
         ensures never_less { NeverLess (W.faults world.old) (W.faults world.new) }
-        ensures fault { (side : Named) → result ≡ Err (LineEnd.Fault side) → Rose (W.faults world.old (part_of side)) (W.faults world.new (part_of side)) }
+        ensures fault { (side : RefusedSide) → result ≡ Err (LineEnd.Fault side) → Rose (W.faults world.old (part_at side)) (W.faults world.new (part_at side)) }
     {
         match self.answer(world, line) {
             Ok(rows) => Ok(Reply {
@@ -186,25 +181,25 @@ impl Session {
         ensures open { IfReplied result (IsOpen self.new (W.blocks world.new)) }
         ensures blocks { W.blocks world.new ≡ W.blocks world.old }
         ensures never_less { NeverLess (W.faults world.old) (W.faults world.new) }
-        ensures fault { (side : Named) → result ≡ Err (LineFault.Fault side) → Rose (W.faults world.old (part_of side)) (W.faults world.new (part_of side)) }
+        ensures fault { Blames result (W.faults world.old) (W.faults world.new) }
     {
         match change_of(line)? {
             Some(change) => self.change(world, &change),
-            None => self.other(world, line),
+            None => self.changeless(world, line),
         }
     }
 
     // The lines that change no contents of a volume.
-    fn other<W: World>(&mut self, world: &mut W, line: &Line) -> Result<ReplyRows, LineFault>
+    fn changeless<W: World>(&mut self, world: &mut W, line: &Line) -> Result<ReplyRows, LineFault>
         requires line { IsValidLine line.now }
         requires open { IsOpen self.old (W.blocks world.old) }
         requires standing { W.told → Standing self.old (now (W.log world.old)) }
-        ensures does { W.told → Did (MayDoOther (state_on self.old (now (W.log world.old))) line.now) self.old self.new (W.log world.old) (W.log world.new) result }
+        ensures does { W.told → Did (MayDoChangeless (state_on self.old (now (W.log world.old))) line.now) self.old self.new (W.log world.old) (W.log world.new) result }
         ensures standing { W.told → IfReplied result (Standing self.new (now (W.log world.new))) }
         ensures open { IfReplied result (IsOpen self.new (W.blocks world.new)) }
         ensures blocks { W.blocks world.new ≡ W.blocks world.old }
         ensures never_less { NeverLess (W.faults world.old) (W.faults world.new) }
-        ensures fault { (side : Named) → result ≡ Err (LineFault.Fault side) → Rose (W.faults world.old (part_of side)) (W.faults world.new (part_of side)) }
+        ensures fault { Blames result (W.faults world.old) (W.faults world.new) }
     {
         standing_volume_is_left();
         volume_blank_is_left();
@@ -223,6 +218,28 @@ impl Session {
             Line::StoreLs(place) => self.store_ls(place),
             Line::StoreCat(item) => self.store_cat(world, item),
             _ => Err(LineFault::Refused(Refused::NotBuilt)),
+        }
+    }
+
+    /// The volume, unless its image is unformatted.
+    pub(crate) fn volume(&self) -> Result<&Volume, Refused>
+        ensures volume { IfOk result (λ volume. self.now.volume ≡ Some volume.now) }
+        ensures none { IfErr result (λ why. (why ≡ Refused.NoVolume) × (self.now.volume ≡ None)) }
+    {
+        match &self.volume {
+            Some(volume) => Ok(volume),
+            None => Err(Refused::NoVolume),
+        }
+    }
+
+    /// The store, unless its image is unformatted.
+    pub(crate) fn store(&self) -> Result<&Store, Refused>
+        ensures store { IfOk result (λ store. self.now.store ≡ Some store.now) }
+        ensures none { IfErr result (λ why. (why ≡ Refused.NoStore) × (self.now.store ≡ None)) }
+    {
+        match &self.store {
+            Some(store) => Ok(store),
+            None => Err(Refused::NoStore),
         }
     }
 

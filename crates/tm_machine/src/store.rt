@@ -1,21 +1,19 @@
 //! The lines that read the store.
-ghost use Rattle.std.specs.Prelude.{◌≡◌, ◌∷◌, ◌++◌, ◌-◌, [], ℕ, List, Some, IfOk, IfSome, OnOk, Err, map, option_map, slice_get, length};
-ghost use Rattle.std.specs.Option.{option_copied, option_map_or};
-ghost use Rattle.tm_base.specs.declared.refused.Side.{Side as Named};
+ghost use Rattle.std.specs.Prelude.{◌≡◌, ◌∷◌, ◌++◌, ◌-◌, [], ℕ, List, Some, IfOk, IfSome, OnOk, Err, slice_get, length};
+ghost use Rattle.std.specs.Option.{option_map_or};
 ghost use Rattle.tm_graph.specs.Nodes.{node};
-ghost use Rattle.tm_store.specs.Finding.{held_at};
 ghost use Rattle.tm_store_records.specs.Held.{IsWhole, files_of, store_on};
-ghost use Rattle.tm_store_records.specs.declared.snapshot.Snapshot.{Snapshot as Row};
 ghost use Rattle.tm_tree.specs.States.{latest};
-ghost use Rattle.tm_world.specs.Faults.{NeverLess, Rose};
+ghost use Rattle.tm_world.specs.Faults.{NeverLess, Blames};
 ghost use Rattle.tm_world.specs.Log.{now, Steps};
 ghost use Rattle.tm_world.specs.Outside.{Outside, disk};
 ghost use Rattle.tm_world.specs.declared.world.Side.TheVariants.{Store as StoreSide};
 ghost use Rattle.tm_machine.specs.Answers.{AnswersQuery, AnswersReading, FindsIn};
 ghost use Rattle.tm_machine.specs.Queries.{content_rows, date_of, holding_snapshot, held_dates, held_latest, held_machine, held_paths, latest_path, snapshot_paths, store_rows, stored_tree};
-ghost use Rattle.tm_machine.specs.Session.{IsIdle, IsOpen, part_of, state_on};
+ghost use Rattle.tm_machine.specs.Session.{IsIdle, IsOpen, state_on};
 ghost use Rattle.tm_machine.specs.States.{store_in};
 ghost use Rattle.tm_machine.specs.Steps.{content_tests, on_store, place_tests, snapshot_tests, stored_tests};
+ghost use Rattle.tm_base.specs.LineFaults.{NoFault};
 
 use crate::session::Session;
 use crate::stored::{leaf_of, node_lines, read_stored};
@@ -112,23 +110,15 @@ impl Session {
     pub(crate) fn list_backups(&self) -> Result<ReplyRows, LineFault>
         ensures { (o : Outside) → let z = store_in (state_on self.now o).store in AnswersQuery (on_store z (λ store. [])) (option_map_or snapshot_paths z []) result }
     {
-        match &self.store {
-            Some(store) => Ok(snapshot_paths(
-                self.alloc,
-                store.machine(),
-                store.snapshots().as_slice(),
-            )?),
-            None => Err(LineFault::Refused(Refused::NoStore)),
-        }
+        let store = self.store()?;
+        Ok(snapshot_paths(self.alloc, store.machine(), store.snapshots().as_slice())?)
     }
 
     /// `tmutil latestbackup`.
     pub(crate) fn latest_backup(&self) -> Result<ReplyRows, LineFault>
         ensures { (o : Outside) → let z = store_in (state_on self.now o).store in AnswersQuery (on_store z (λ store. snapshot_tests (latest store))) (option_map_or latest_path z []) result }
     {
-        let Some(store) = &self.store else {
-            return Err(LineFault::Refused(Refused::NoStore));
-        };
+        let store = self.store()?;
         let Some(snapshot) = store.snapshots().as_slice().last() else {
             return Err(LineFault::Refused(Refused::NoSnapshot));
         };
@@ -142,9 +132,7 @@ impl Session {
         ensures { (o : Outside) → let z = store_in (state_on self.now o).store in AnswersQuery (on_store z (λ store. []))
             (option_map_or (λ store. ReplyRow.MachineDirectory store.machine ∷ []) z []) result }
     {
-        let Some(store) = &self.store else {
-            return Err(LineFault::Refused(Refused::NoStore));
-        };
+        let store = self.store()?;
         let mut rows = ReplyRows::new(self.alloc);
         rows.push(ReplyRow::MachineDirectory(store.machine().clone()?))?;
         Ok(rows)
@@ -155,10 +143,8 @@ impl Session {
         requires idle { IfSome self.now.store (λ h. IsIdle h self.now.store_blocks) }
         ensures { (o : Outside) → let z = store_in (state_on self.now o).store in AnswersQuery (on_store z (λ store. place_tests store place.now)) (option_map_or (λ store. store_rows store place.now) z []) result }
     {
-        match &self.store {
-            Some(store) => list_place(self.alloc, store, place),
-            None => Err(LineFault::Refused(Refused::NoStore)),
-        }
+        let store = self.store()?;
+        list_place(self.alloc, store, place)
     }
 
     /// `store cat`.
@@ -174,12 +160,10 @@ impl Session {
         ensures steps { W.told → Steps (W.log world.old) (W.log world.new) (now (W.log world.old)) }
         ensures blocks { W.blocks world.new ≡ W.blocks world.old }
         ensures never_less { NeverLess (W.faults world.old) (W.faults world.new) }
-        ensures fault { (side : Named) → result ≡ Err (LineFault.Fault side) → Rose (W.faults world.old (part_of side)) (W.faults world.new (part_of side)) }
+        ensures fault { Blames result (W.faults world.old) (W.faults world.new) }
     {
-        match &self.store {
-            Some(store) => tell_stored(self.alloc, world, store, item),
-            None => Err(LineFault::Refused(Refused::NoStore)),
-        }
+        let store = self.store()?;
+        tell_stored(self.alloc, world, store, item)
     }
 }
 
@@ -221,10 +205,11 @@ fn find_stored<'a>(store: &'a Store, item: &ItemAt) -> Result<StoredItem<'a>, Li
     requires { IsWhole store.now }
     ensures finds { (bytes : ℕ → List ℕ) → FindsIn (holding_snapshot (store_on store.now bytes) item.now) item.now.path (files_of store.now.image.records bytes) store.now.nodes result }
     ensures row { IfOk result (λ found. node store.now.nodes found.number ≡ Some found.row.now) }
-    ensures fault { (side : Named) → result ≡ Err (LineFault.Fault side) → ⊥ }
+    ensures fault { NoFault result }
 {
     snapshots_are_named();
     entries_stand();
+    // The result borrows, so `?` can't pass an error on here.
     let found = match store.lookup(
         &item.snapshot.machine,
         date_of(&item.snapshot.at),
@@ -249,6 +234,7 @@ fn list_stored(alloc: Global, store: &Store, item: &ItemAt) -> Result<ReplyRows,
     ensures { (bytes : ℕ → List ℕ) → let s = store_on store.now bytes in AnswersQuery (place_tests s (StorePath.Item item.now)) (store_rows s (StorePath.Item item.now)) result }
 {
     held_files();
+    // `?` can't pass a value that borrows beside a number.
     match find_stored(store, item) {
         Ok(found) => Ok(node_lines(alloc, store.graph(), found.row, &item.path)?),
         Err(why) => Err(why),
@@ -269,8 +255,9 @@ fn tell_stored<W: World>(
     ensures steps { W.told → Steps (W.log world.old) (W.log world.new) (now (W.log world.old)) }
     ensures blocks { W.blocks world.new ≡ W.blocks world.old }
     ensures never_less { NeverLess (W.faults world.old) (W.faults world.new) }
-    ensures fault { (side : Named) → result ≡ Err (LineFault.Fault side) → Rose (W.faults world.old (part_of side)) (W.faults world.new (part_of side)) }
+    ensures fault { Blames result (W.faults world.old) (W.faults world.new) }
 {
+    // `?` can't pass a value that borrows beside a number.
     let found = match find_stored(store, item) {
         Ok(found) => found,
         Err(why) => return Err(why),

@@ -1,18 +1,16 @@
 //! The data lines of items in snapshots.
-ghost use Rattle.std.specs.Prelude.{◌≡◌, ◌≤◌, ◌++◌, ◌∷◌, [], ℕ, List, true, is_some, IfOk, IfSome, OnOk, Err, length};
+ghost use Rattle.std.specs.Prelude.{◌≡◌, ◌≤◌, ◌++◌, ◌∷◌, [], ℕ, true, is_some, IfOk, IfSome, OnOk, Err, length};
 ghost use Rattle.std.specs.List.{cons_option};
 ghost use Rattle.std.specs.Option.{option_copied};
 ghost use Rattle.tm_base.specs.declared.refused.Refused.{Refused};
-ghost use Rattle.tm_base.specs.declared.refused.Side.{Side as Named};
 ghost use Rattle.tm_graph.specs.Nodes.{node};
 ghost use Rattle.tm_identity.specs.Stored.{node_length};
 ghost use Rattle.tm_store_records.specs.Held.{IsWhole, files_of};
-ghost use Rattle.tm_world.specs.Faults.{NeverLess, Rose};
+ghost use Rattle.tm_world.specs.Faults.{NeverLess, Blames};
 ghost use Rattle.tm_world.specs.Log.{now, Steps};
 ghost use Rattle.tm_world.specs.Outside.{disk};
 ghost use Rattle.tm_world.specs.declared.world.Side.TheVariants.{Store as StoreSide};
 ghost use Rattle.tm_machine.specs.Queries.{attributes, leaf_in, child_line, child_lines, extra_rows, node_attributes, node_line, node_lines};
-ghost use Rattle.tm_machine.specs.Session.{part_of};
 
 use std::alloc::{AllocError, Global};
 use tm_base::{LineFault, Path, Side};
@@ -160,7 +158,7 @@ pub(crate) fn read_stored<W: World>(
     ensures steps { W.told → Steps (W.log world.old) (W.log world.new) (now (W.log world.old)) }
     ensures blocks { W.blocks world.new ≡ W.blocks world.old }
     ensures never_less { NeverLess (W.faults world.old) (W.faults world.new) }
-    ensures fault { (side : Named) → result ≡ Err (LineFault.Fault side) → Rose (W.faults world.old (part_of side)) (W.faults world.new (part_of side)) }
+    ensures fault { Blames result (W.faults world.old) (W.faults world.new) }
 {
     held_files();
     let mut bytes = Vec::new(alloc);

@@ -1,24 +1,21 @@
 //! The lines on a volume.
-ghost use Rattle.std.specs.Prelude.{◌≡◌, ◌≤◌, ◌∷◌, ◌++◌, [], ℕ, List, IfOk, IfSome, OnOk, Err, Some, length, true, map};
+ghost use Rattle.std.specs.Prelude.{◌≡◌, ◌≤◌, ◌∷◌, ◌++◌, [], ℕ, List, IfOk, IfSome, Err, Some, length, true};
 ghost use Rattle.std.specs.Option.{option_map_or};
 ghost use Rattle.tm_base.specs.declared.refused.Refused.{Refused};
-ghost use Rattle.tm_base.specs.declared.refused.Side.{Side as Named};
 ghost use Rattle.tm_tree.specs.Changes.{item_tests};
 ghost use Rattle.tm_tree.specs.Items.{bytes_of, is_file};
 ghost use Rattle.tm_tree.specs.Trees.{item_at};
-ghost use Rattle.tm_tree.specs.Walks.{walk};
 ghost use Rattle.tm_tree.specs.declared.item.Item.{Item};
-ghost use Rattle.tm_volume.specs.Changes.{IsChange};
+ghost use Rattle.tm_changes.specs.Changes.{IsChange};
 ghost use Rattle.tm_volume.specs.Seen.{IsReady, tree_on};
 ghost use Rattle.tm_world.specs.Log.{Steps};
 ghost use Rattle.tm_world.specs.Outside.{Outside, disk};
-ghost use Rattle.tm_world.specs.declared.world.Part.{Part};
 ghost use Rattle.tm_world.specs.declared.world.Side.TheVariants.{Volume as VolumeSide};
-ghost use Rattle.tm_world.specs.Faults.{NeverLess, Rose};
+ghost use Rattle.tm_world.specs.Faults.{NeverLess, Blames};
 ghost use Rattle.tm_world.specs.Log.{now};
 ghost use Rattle.tm_machine.specs.Answers.{AnswersQuery, AnswersReading, IsRow};
 ghost use Rattle.tm_machine.specs.Queries.{content_rows, list_rows};
-ghost use Rattle.tm_machine.specs.Session.{Alike, Does, IfReplied, IsOpen, Standing, effect, part_of, state_on};
+ghost use Rattle.tm_machine.specs.Session.{Alike, Does, IfReplied, IsOpen, Standing, effect, state_on};
 ghost use Rattle.tm_machine.specs.States.{kept};
 ghost use Rattle.tm_machine.specs.Steps.{change_tests, changed, content_tests, on_volume};
 
@@ -49,7 +46,7 @@ impl Session {
         ensures open { IfReplied result (IsOpen self.new (W.blocks world.new)) }
         ensures blocks { W.blocks world.new ≡ W.blocks world.old }
         ensures never_less { NeverLess (W.faults world.old) (W.faults world.new) }
-        ensures fault { (side : Named) → result ≡ Err (LineFault.Fault side) → Rose (W.faults world.old (part_of side)) (W.faults world.new (part_of side)) }
+        ensures fault { Blames result (W.faults world.old) (W.faults world.new) }
     {
         standing_volume_is_left();
         volume_blank_is_left();
@@ -59,7 +56,7 @@ impl Session {
         let Some(volume) = &mut self.volume else {
             return Err(LineFault::Refused(Refused::NoVolume));
         };
-        let _touches = match volume.change(world, change, moment) {
+        let _touches = match tm_changes::change(volume, world, change, moment) {
             Ok(touches) => touches,
             Err(why) => {
                 // The rules that it keeps come with what it says of itself.
@@ -92,12 +89,10 @@ impl Session {
         ensures steps { W.told → Steps (W.log world.old) (W.log world.new) (now (W.log world.old)) }
         ensures blocks { W.blocks world.new ≡ W.blocks world.old }
         ensures never_less { NeverLess (W.faults world.old) (W.faults world.new) }
-        ensures fault { (side : Named) → result ≡ Err (LineFault.Fault side) → Rose (W.faults world.old (part_of side)) (W.faults world.new (part_of side)) }
+        ensures fault { Blames result (W.faults world.old) (W.faults world.new) }
     {
-        match &self.volume {
-            Some(volume) => show_contents(self.alloc, world, volume, path),
-            None => Err(LineFault::Refused(Refused::NoVolume)),
-        }
+        let volume = self.volume()?;
+        show_contents(self.alloc, world, volume, path)
     }
 }
 
@@ -116,7 +111,7 @@ fn read_file<W: World>(
     ensures steps { W.told → Steps (W.log world.old) (W.log world.new) (now (W.log world.old)) }
     ensures blocks { W.blocks world.new ≡ W.blocks world.old }
     ensures never_less { NeverLess (W.faults world.old) (W.faults world.new) }
-    ensures fault { (side : Named) → result ≡ Err (LineFault.Fault side) → Rose (W.faults world.old (part_of side)) (W.faults world.new (part_of side)) }
+    ensures fault { Blames result (W.faults world.old) (W.faults world.new) }
 {
     let mut bytes = Vec::new(alloc);
     bytes.resize(size as usize, 0u8)?;
@@ -138,19 +133,14 @@ fn show_contents<W: World>(
     ensures steps { W.told → Steps (W.log world.old) (W.log world.new) (now (W.log world.old)) }
     ensures blocks { W.blocks world.new ≡ W.blocks world.old }
     ensures never_less { NeverLess (W.faults world.old) (W.faults world.new) }
-    ensures fault { (side : Named) → result ≡ Err (LineFault.Fault side) → Rose (W.faults world.old (part_of side)) (W.faults world.new (part_of side)) }
+    ensures fault { Blames result (W.faults world.old) (W.faults world.new) }
 {
-    let ItemRow { body, .. } = match volume.find(path) {
-        Ok(row) => row,
-        Err(why) => return Err(why),
-    };
+    let ItemRow { body, .. } = volume.find(path)?;
     match body {
         ItemBody::Folder { .. } => Err(LineFault::Refused(Refused::IsFolder)),
         ItemBody::Leaf(LeafRow::File { length, .. }) => {
-            match read_file(alloc, world, volume, path, length) {
-                Ok(bytes) => one_row(alloc, ReplyRow::Contents(bytes)),
-                Err(why) => Err(why),
-            }
+            let bytes = read_file(alloc, world, volume, path, length)?;
+            one_row(alloc, ReplyRow::Contents(bytes))
         }
         ItemBody::Leaf(LeafRow::Link { target, .. }) => one_row(alloc, ReplyRow::Target(target)),
     }

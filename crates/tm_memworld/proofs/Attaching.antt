@@ -93,7 +93,7 @@ pub script_steps : (c : Contents) (began : ℕ) (changes more : List Change) →
 unfolding attached
 script_steps c began changes more begun i path create is noted_is =
     noted c began changes more begun (Started c.script c.position) (record c { script = Some i; position = 0 }) (attached Script path create) noted_is refl
-    (λ j. record (view c) { left = ap (λ o. unwrap_or o []) is j })
+    (λ j. record (view c) { unread = ap (λ o. unwrap_or o []) is j })
 
 -- what attaching makes of the outside: where something stands, where nothing does and nothing is made, and where an image is made
 pub attached-standing : (side : Side) (path : List ℕ) (create : Option ℕ) (s : Outside) → (s.stands (Some path)).there ≡ true → with_place side (Some path) s ≡ attached (part_of side) path create s

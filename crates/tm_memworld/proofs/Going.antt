@@ -2,6 +2,7 @@
 use Rattle.std.proofs.Common.{◌≡◌, ◌≢◌, ⊎_elim, ℕ, zero, suc, ◌+◌, ◌<◌, ◌≤◌, List, [], ◌∷◌, ◌++◌, length, get_or, set, drop, Option, Some, None, refl, sym, ◌∙◌, ap, subst, arith}
 use Rattle.std.proofs.lemmas.Bool.{cases_eq, cases_lt}
 use Rattle.std.proofs.lemmas.List.{get_or-set_same, get_or-set_other, set_past, get_or_read, drop-drop}
+use Rattle.tm_base.specs.Limits.{max_blocks}
 use Rattle.tm_world.specs.Disk.{Disk, nothing, written, synced}
 use Rattle.tm_world.specs.Outside.{Outside, disk, put_disk, took, spoke}
 use Rattle.tm_world.specs.Log.{now, Steps}
@@ -32,7 +33,7 @@ left_in-took scripts (Some i) position n = sym (drop-drop n position (text_at sc
 
 view-took : (n : ℕ) (c : Contents) → view (record c { position = c.position + n }) ≡ took n (view c)
 unfolding took
-view-took n c = λ j. record (view c) { left = left_in-took c.scripts c.script c.position n j }
+view-took n c = λ j. record (view c) { unread = left_in-took c.scripts c.script c.position n j }
 
 -- a side's site is the first of its path
 pub first_of : (side : Side) (c : Contents) (i : ℕ) → ((k : ℕ) → c.volume ≡ Some k → IsFirst c.sites k) → ((k : ℕ) → c.store ≡ Some k → IsFirst c.sites k)
@@ -44,8 +45,8 @@ first_of Store c i volume_first store_first at = store_first i at
 pub site_is : (sites : List SiteView) (i : ℕ) (s : SiteView) → i < length sites → s ≡ get_or sites i s → s ≡ site_at sites i
 site_is sites i s lt is = get_or_read sites i s lt is (blank [] 0)
 
-pub small_at : (sites : List SiteView) (i : ℕ) (s : SiteView) → AreSmall sites → IsFirst sites i → s ≡ site_at sites i → (disk_of s).count ≤ 262144
-small_at sites i s small first is = subst (λ d. d.count ≤ 262144) (stands_at sites i first ∙ ap disk_of (sym is)) (small.each (Some (path_at sites i)))
+pub small_at : (sites : List SiteView) (i : ℕ) (s : SiteView) → AreSmall sites → IsFirst sites i → s ≡ site_at sites i → (disk_of s).count ≤ max_blocks
+small_at sites i s small first is = subst (λ d. d.count ≤ max_blocks) (stands_at sites i first ∙ ap disk_of (sym is)) (small.each (Some (path_at sites i)))
 
 le-set : (xs : List ℕ) (i v b bound : ℕ) → v ≤ bound → get_or xs b 0 ≤ bound → get_or (set xs i v) b 0 ≤ bound
 le-set xs i v b bound new old = ⊎_elim

@@ -2,6 +2,7 @@
 use Rattle.std.proofs.Common.{◌≡◌, ◌≢◌, ◌⊎◌, inl, inr, ℕ, ◌<◌, ◌≤◌, Bool, true, false, cond, ltb, ◌||◌, IsTrue, List, [], ◌∷◌, length, Option, Some, None, refl, sym, ◌∙◌, ap, subst, rules, tests, arith}
 use Rattle.std.proofs.lemmas.Bool.{cond-true, cond-false, false_from_ne_true}
 use Rattle.std.specs.Option.{option_map, is_some}
+use Rattle.tm_base.specs.Limits.{max_blocks}
 use Rattle.tm_world.specs.Disk.{Disk, nothing}
 use Rattle.tm_world.specs.Outside.{Outside, Place, is_place, place, disk, put_at, with_place}
 use Rattle.tm_world.specs.Log.{Log, now, Steps}
@@ -104,8 +105,8 @@ module _ (d : Devices) (path : List ℕ) where
     pub room_is : places_of d path ≡ length s.blocks
     room_is = ap (places_of d) (sym path_is) ∙ room_here d.sites.items i first ∙ ap (λ (u : SiteView). length u.blocks) (sym is)
 
-    pub small_is : (disk_of s).count ≤ 262144
-    small_is = subst (λ (e : Disk). e.count ≤ 262144) (stands_at d.sites.items i first ∙ ap disk_of (sym is)) (d.small.each (Some (path_at d.sites.items i)))
+    pub small_is : (disk_of s).count ≤ max_blocks
+    small_is = subst (λ (e : Disk). e.count ≤ max_blocks) (stands_at d.sites.items i first ∙ ap disk_of (sym is)) (d.small.each (Some (path_at d.sites.items i)))
 
     pub at_other : (side : Side) → attached_at side (contents_of d) ≡ Some i → is_place (place side (outside d)) (Some path) ≡ true
     at_other side at = subst (λ p. is_place p (Some path) ≡ true)

@@ -14,7 +14,7 @@ use Rattle.tm_world.proofs.Sides.{count-put_disk, disk-spoke, put_disk_same}
 use Rattle.tm_world.proofs.Disks.{differs-written, differs-none}
 use Rattle.tm_memworld.specs.declared.room.Room.{Room}
 use Rattle.tm_memworld.specs.Room.{spent}
-use Rattle.tm_memworld.specs.Faults.{one_more, is_part, raised}
+use Rattle.tm_world.specs.Counts.{one_more, is_part, raised}
 use Rattle.tm_memworld.specs.Torn.{loosened}
 use Rattle.tm_memworld.specs.Devices.{log_of, places_of}
 use Rattle.tm_memworld.specs.State.{State, called, with_outside}

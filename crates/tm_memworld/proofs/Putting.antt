@@ -37,7 +37,7 @@ pub view-script : (c : Contents) (path text : List ℕ) → ((i : ℕ) → c.scr
     → view (record c { scripts = c.scripts ++ record { path = path; text = text } ∷ [] }) ≡ with_script path text (view c)
 view-script c path text within = λ j. record (view c) {
   scripts = λ at. scripts-push c.scripts (record { path = path; text = text }) at j;
-  left = left-push c.scripts (record { path = path; text = text }) c.script c.position within j;
+  unread = left-push c.scripts (record { path = path; text = text }) c.script c.position within j;
 }
 
 module _ (c : Contents) (changes : List Change) (began later : ℕ) (t : SiteView) where

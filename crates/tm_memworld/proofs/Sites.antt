@@ -5,7 +5,7 @@ use Rattle.std.proofs.lemmas.Bool.{cond-true, cond-false, cases_eq, cases_lt, eq
 use Rattle.std.proofs.lemmas.List.{get_or-set_same, get_or-set_other, get_or-replicate, get_or_past}
 use Rattle.tm_world.specs.Disk.{nothing, zeros, written, synced}
 use Rattle.tm_memworld.specs.Torn.{loosened, torn_disk}
-use Rattle.tm_memworld.specs.Site.{disk_in, disk_of, zero_block, IsWhole, blank}
+use Rattle.tm_memworld.specs.Site.{disk_in, disk_of, zero_block, KeepsImage, blank}
 
 get_or-set : {X : Type 0} (xs : List X) (i : ℕ) (v d : X) (b : ℕ) → i < length xs → get_or (set xs i v) b d ≡ cond (eqb b i) v (get_or xs b d)
 get_or-set xs i v d b lt = ⊎_elim
@@ -20,13 +20,13 @@ get_or-same n v b = ⊎_elim
     (cases_lt b n)
 
 -- a block of the image is one of those that are kept
-pub within : (count : Option ℕ) (blocks : List (List ℕ)) (times : List ℕ) (settled block : ℕ) → IsWhole count blocks times → block < (disk_in count blocks times settled).count → block < length blocks
+pub within : (count : Option ℕ) (blocks : List (List ℕ)) (times : List ℕ) (settled block : ℕ) → KeepsImage count blocks times → block < (disk_in count blocks times settled).count → block < length blocks
 unfolding disk_in
 within None blocks times settled block whole lt = absurd (omega arith)
 within (Some n) blocks times settled block whole lt = omega (arith, whole.within n refl)
 
-pub whole_set : (count : Option ℕ) (blocks more : List (List ℕ)) (times later : List ℕ) (settled block : ℕ) → IsWhole count blocks times → block < (disk_in count blocks times settled).count
-    → length more ≡ length blocks → length later ≡ length times → IsWhole count more later
+pub whole_set : (count : Option ℕ) (blocks more : List (List ℕ)) (times later : List ℕ) (settled block : ℕ) → KeepsImage count blocks times → block < (disk_in count blocks times settled).count
+    → length more ≡ length blocks → length later ≡ length times → KeepsImage count more later
 unfolding disk_in
 whole_set None blocks more times later settled block whole lt same_blocks same_times = absurd (omega arith)
 whole_set (Some n) blocks more times later settled block whole lt same_blocks same_times = record {
@@ -46,7 +46,7 @@ later-set times i time settled b lt later = ⊎_elim
     ∙ sym (cond-false (eqb b i) true (ltb settled (get_or times b 0)) (ne_eqb b i ne)))
     (cases_eq b i)
 
-pub disk_in-put : (count : Option ℕ) (blocks : List (List ℕ)) (times : List ℕ) (settled block : ℕ) (bytes : List ℕ) (time : ℕ) → IsWhole count blocks times
+pub disk_in-put : (count : Option ℕ) (blocks : List (List ℕ)) (times : List ℕ) (settled block : ℕ) (bytes : List ℕ) (time : ℕ) → KeepsImage count blocks times
     → block < (disk_in count blocks times settled).count → settled < time
     → disk_in count (set blocks block bytes) (set times block time) settled ≡ written block bytes (disk_in count blocks times settled)
 unfolding disk_in written
@@ -61,7 +61,7 @@ disk_in-put (Some n) blocks times settled block bytes time whole lt later =
       loose = λ b. later-set times block time settled b timed later j;
     }
 
-pub disk_in-loosen : (count : Option ℕ) (blocks : List (List ℕ)) (times : List ℕ) (settled block time : ℕ) → IsWhole count blocks times
+pub disk_in-loosen : (count : Option ℕ) (blocks : List (List ℕ)) (times : List ℕ) (settled block time : ℕ) → KeepsImage count blocks times
     → block < (disk_in count blocks times settled).count → settled < time
     → disk_in count blocks (set times block time) settled ≡ loosened block (disk_in count blocks times settled)
 unfolding disk_in loosened
@@ -89,7 +89,7 @@ disk_in-settle (Some n) blocks times settled time by = λ j. record {
   loose = λ b. not_later time (get_or times b 0) (by b) j;
 }
 
-pub disk_in-open : (blocks : List (List ℕ)) (times : List ℕ) (settled n : ℕ) → IsWhole None blocks times → disk_in (Some n) blocks times settled ≡ zeros n
+pub disk_in-open : (blocks : List (List ℕ)) (times : List ℕ) (settled n : ℕ) → KeepsImage None blocks times → disk_in (Some n) blocks times settled ≡ zeros n
 unfolding disk_in
 disk_in-open blocks times settled n whole = λ j. record {
   there = true;

@@ -5,6 +5,7 @@ use Rattle.std.proofs.lemmas.List.{get_or-set_same, get_or-set_other, length-set
 use Rattle.std.proofs.lemmas.Slice.Eq.{bytes_eq-Decides}
 use Rattle.std.specs.Option.{option_map}
 use Rattle.std.specs.Str.{bytes_eq}
+use Rattle.tm_base.specs.Limits.{max_blocks}
 use Rattle.tm_world.specs.Disk.{nothing}
 use Rattle.tm_world.specs.Outside.{Place, is_place, place, disk, put_at, put_disk}
 use Rattle.tm_world.specs.declared.world.Side.{Side}
@@ -68,7 +69,7 @@ view-set c i t first same = λ j. record {
   scripts = (view c).scripts;
   volume = places-set c.sites i t c.volume first.within same j;
   store = places-set c.sites i t c.store first.within same j;
-  left = (view c).left;
+  unread = (view c).unread;
   said = c.said;
 }
 
@@ -103,11 +104,11 @@ first-set sites i k t lt same first = record {
       (subst (λ p. is_place (Some (path_at sites m)) (Some p) ≡ false) (sym (path-set sites i t k lt same)) (first.others m below));
 }
 
-pub small-set : (sites : List SiteView) (i : ℕ) (t : SiteView) → AreSmall sites → IsFirst sites i → t.path ≡ path_at sites i → (disk_of t).count ≤ 262144 → AreSmall (set sites i t)
+pub small-set : (sites : List SiteView) (i : ℕ) (t : SiteView) → AreSmall sites → IsFirst sites i → t.path ≡ path_at sites i → (disk_of t).count ≤ max_blocks → AreSmall (set sites i t)
 small-set sites i t small first same le = record {
-  each = λ at. subst (λ d. d.count ≤ 262144) (sym (stands-set sites i t at first same)) (⊎_elim
-      (λ (here : is_place (Some (path_at sites i)) at ≡ true). subst (λ d. d.count ≤ 262144) (sym (cond-true _ (disk_of t) (stands_in sites at) here)) le)
-      (λ (not : is_place (Some (path_at sites i)) at ≡ false). subst (λ d. d.count ≤ 262144) (sym (cond-false _ (disk_of t) (stands_in sites at) not)) (small.each at))
+  each = λ at. subst (λ d. d.count ≤ max_blocks) (sym (stands-set sites i t at first same)) (⊎_elim
+      (λ (here : is_place (Some (path_at sites i)) at ≡ true). subst (λ d. d.count ≤ max_blocks) (sym (cond-true _ (disk_of t) (stands_in sites at) here)) le)
+      (λ (not : is_place (Some (path_at sites i)) at ≡ false). subst (λ d. d.count ≤ max_blocks) (sym (cond-false _ (disk_of t) (stands_in sites at) not)) (small.each at))
       (cases_Bool (is_place (Some (path_at sites i)) at)));
 }
 
@@ -200,15 +201,15 @@ view-push c t volume_first store_first nowhere = λ j. record {
   scripts = (view c).scripts;
   volume = places-push c.sites t c.volume volume_first j;
   store = places-push c.sites t c.store store_first j;
-  left = (view c).left;
+  unread = (view c).unread;
   said = c.said;
 }
 
-pub small-push : (sites : List SiteView) (t : SiteView) → AreSmall sites → IsNowhere sites t.path → (disk_of t).count ≤ 262144 → AreSmall (sites ++ t ∷ [])
+pub small-push : (sites : List SiteView) (t : SiteView) → AreSmall sites → IsNowhere sites t.path → (disk_of t).count ≤ max_blocks → AreSmall (sites ++ t ∷ [])
 small-push sites t small nowhere le = record {
-  each = λ at. subst (λ d. d.count ≤ 262144) (sym (stands-push sites t at nowhere)) (⊎_elim
-      (λ (here : is_place (Some t.path) at ≡ true). subst (λ d. d.count ≤ 262144) (sym (cond-true _ (disk_of t) (stands_in sites at) here)) le)
-      (λ (not : is_place (Some t.path) at ≡ false). subst (λ d. d.count ≤ 262144) (sym (cond-false _ (disk_of t) (stands_in sites at) not)) (small.each at))
+  each = λ at. subst (λ d. d.count ≤ max_blocks) (sym (stands-push sites t at nowhere)) (⊎_elim
+      (λ (here : is_place (Some t.path) at ≡ true). subst (λ d. d.count ≤ max_blocks) (sym (cond-true _ (disk_of t) (stands_in sites at) here)) le)
+      (λ (not : is_place (Some t.path) at ≡ false). subst (λ d. d.count ≤ max_blocks) (sym (cond-false _ (disk_of t) (stands_in sites at) not)) (small.each at))
       (cases_Bool (is_place (Some t.path) at)));
 }
 

@@ -27,7 +27,7 @@ view c = record {
   scripts = scripts_in c.scripts;
   volume = option_map (path_at c.sites) c.volume;
   store = option_map (path_at c.sites) c.store;
-  left = left_in c.scripts c.script c.position;
+  unread = left_in c.scripts c.script c.position;
   said = c.said;
 }
 

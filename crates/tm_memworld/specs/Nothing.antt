@@ -4,4 +4,4 @@ use Rattle.tm_world.specs.Disk.{nothing}
 use Rattle.tm_world.specs.Outside.{Outside}
 
 abbrev pub empty : Outside
-empty = record { stands = λ _. nothing; scripts = λ _. None; volume = None; store = None; left = []; said = [] }
+empty = record { stands = λ _. nothing; scripts = λ _. None; volume = None; store = None; unread = []; said = [] }

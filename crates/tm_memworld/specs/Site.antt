@@ -2,6 +2,7 @@
 -- Times are numbers of changes in the record.
 use Rattle.std.specs.Prelude.{◌≡◌, ◌≤◌, ℕ, true, List, length, Option, Some, None, replicate, slice_index_or, slice_index, nat_lt}
 use Rattle.std.specs.Option.{ForSome}
+use Rattle.tm_base.specs.Limits.{max_blocks}
 use Rattle.tm_world.specs.Disk.{Disk, nothing}
 
 pub record SiteView : Type 0 where
@@ -43,9 +44,9 @@ pub record IsBy (time : ℕ) (site : SiteView) : Type 0 where
   pub written : (b : ℕ) → slice_index site.times b ≤ time
 
 -- the image has no more blocks than are kept; where none stands, all are zeros that were never written
-pub record IsWhole (count : Option ℕ) (blocks : List (List ℕ)) (times : List ℕ) : Type 0 where
+pub record KeepsImage (count : Option ℕ) (blocks : List (List ℕ)) (times : List ℕ) : Type 0 where
   pub same : length times ≡ length blocks
-  pub most : length blocks ≤ 262144
+  pub most : length blocks ≤ max_blocks
   pub within : ForSome count (λ n. n ≤ length blocks)
   pub zeros : count ≡ None → (b : ℕ) → slice_index_or blocks b zero_block ≡ zero_block
   pub unwritten : count ≡ None → (b : ℕ) → slice_index times b ≡ 0

@@ -1,6 +1,7 @@
 -- Sites in a list, seen as what stands at each path.
 use Rattle.std.specs.Prelude.{◌≡◌, ◌<◌, ◌≤◌, ℕ, false, List, [], ◌∷◌, length, Some, slice_index_or, if◌then◌else◌}
 use Rattle.std.specs.Str.{bytes_eq}
+use Rattle.tm_base.specs.Limits.{max_blocks}
 use Rattle.tm_world.specs.Disk.{Disk, nothing}
 use Rattle.tm_world.specs.Outside.{Place, is_place}
 use Rattle.tm_memworld.specs.Torn.{torn_disk}
@@ -33,7 +34,7 @@ pub record IsNowhere (sites : List SiteView) (path : List ℕ) : Type 0 where
 
 -- no image is larger than an image may be
 pub record AreSmall (sites : List SiteView) : Type 0 where
-  pub each : (at : Place) → (stands_in sites at).count ≤ 262144
+  pub each : (at : Place) → (stands_in sites at).count ≤ max_blocks
 
 -- no site was changed after this time
 pub record AreBy (time : ℕ) (sites : List SiteView) : Type 0 where

@@ -6,7 +6,7 @@ use Rattle.tm_world.specs.declared.world.Part.{Part}
 use Rattle.tm_world.specs.declared.world.Part.TheVariants.{Volume as VolumePart, Store as StorePart, Script, Out}
 use Rattle.tm_world.specs.declared.world.Side.{Side}
 use Rattle.tm_world.specs.declared.world.Side.TheVariants.{Volume, Store}
-use Rattle.tm_memworld.specs.Faults.{one_more, raised}
+use Rattle.tm_world.specs.Counts.{one_more, raised}
 use Rattle.tm_memworld.specs.Plan.{is_named}
 use Rattle.tm_memworld.specs.Torn.{loosened, stopped}
 use Rattle.tm_memworld.specs.Putting.{with_room, placed}

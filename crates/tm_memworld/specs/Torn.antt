@@ -13,4 +13,4 @@ torn_disk torn disk = record { there = disk.there; count = disk.count; bytes = �
 
 -- after a stop: loose blocks are torn, and nothing is said
 abbrev pub stopped : List ℕ → Outside → Outside
-stopped torn s = record { stands = λ place. torn_disk torn (s.stands place); scripts = s.scripts; volume = s.volume; store = s.store; left = s.left; said = [] }
+stopped torn s = record { stands = λ place. torn_disk torn (s.stands place); scripts = s.scripts; volume = s.volume; store = s.store; unread = s.unread; said = [] }

@@ -5,7 +5,6 @@
 mod change;
 mod devices;
 mod error;
-mod faults;
 mod plan;
 mod room;
 mod script;

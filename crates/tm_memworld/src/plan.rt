@@ -3,7 +3,7 @@ use std::alloc::{AllocError, Global};
 
 /// How many calls were made, and which calls fail.
 #[derive(Drop)]
-pub struct Plan {
+pub struct FaultPlan {
     /// The number of calls made; it stands still at 2^64 - 1.
     pub made: u64,
     /// The numbers of calls that fail.
@@ -12,17 +12,17 @@ pub struct Plan {
     pub fuse: Option<u64>,
 }
 
-impl Plan {
+impl FaultPlan {
     ghost use Rattle.std.specs.Prelude.{◌≡◌, ◌+◌, ◌-◌, ◌^◌, ◌++◌, [], min, OnOk, OnErr};
     ghost use Rattle.tm_memworld.specs.Plan.{is_named};
 
     /// No call was made, and none fails.
-    pub fn new(alloc: Global) -> Plan
+    pub fn new(alloc: Global) -> FaultPlan
         ensures made { result.made ≡ 0 }
         ensures failing { result.failing.items ≡ [] }
         ensures fuse { result.fuse ≡ None }
     {
-        Plan {
+        FaultPlan {
             made: 0,
             failing: Vec::new(alloc),
             fuse: None,

@@ -2,6 +2,7 @@
 mod blocks;
 
 ghost use Rattle.std.specs.Prelude.{◌≡◌, ◌<◌, ◌≤◌, length, replicate, slice_index, slice_index_or, slice_set, IfOk, None, Some};
+ghost use Rattle.tm_base.specs.Limits.{max_blocks};
 ghost use Rattle.tm_world.specs.Disk.{written, synced, zeros};
 ghost use Rattle.tm_memworld.specs.Torn.{loosened, torn_disk};
 ghost use Rattle.tm_memworld.specs.Site.{SiteView, blank, disk_of, count_at, IsBy, zero_block};
@@ -33,19 +34,19 @@ pub struct Site {
 }
 
 impl Model for Site {
-    ghost use Rattle.tm_memworld.specs.Site.{SiteView, IsWhole};
+    ghost use Rattle.tm_memworld.specs.Site.{SiteView, KeepsImage};
 
     ghost Value = { SiteView };
 
     ghost view = { λ s. record { path = s.path.items; count = s.count; blocks = s.blocks.items; times = s.times.items; settled = s.settled } };
 
-    ghost invariant = { λ s. IsWhole s.count s.blocks.items s.times.items };
+    ghost invariant = { λ s. KeepsImage s.count s.blocks.items s.times.items };
 }
 
 impl Site {
     /// A path at which nothing stands, and memory for an image of so many blocks.
     pub fn blank(alloc: Global, path: &[u8], blocks: u32) -> Result<Site, AllocError>
-        requires { blocks ≤ 262144 }
+        requires { blocks ≤ max_blocks }
         ensures { IfOk result (λ s. s ≡ blank path.now blocks) }
     {
         Ok(Site {
@@ -88,7 +89,7 @@ impl Site {
     /// For how many blocks there is memory.
     pub fn capacity(&self) -> u32
         ensures count { result ≡ length self.now.blocks }
-        ensures most { result ≤ 262144 }
+        ensures most { result ≤ max_blocks }
     {
         self.blocks.len() as u32
     }

@@ -1,22 +1,22 @@
 //! A world in memory.
 ghost use Rattle.std.specs.Prelude.{◌≡◌, ◌≢◌, ◌<◌, ◌≤◌, ◌↔◌, ◌++◌, ◌||◌, [], ℕ, length, min, take, drop, Some, IsTrue, IsErr, IsSome, IsNone, IsOkAnd, IfOk, IfSome, IfNone, OnOk, OnErr, OnSome};
 ghost use Rattle.std.specs.Option.{ForSome};
+ghost use Rattle.tm_base.specs.Limits.{max_blocks};
 ghost use Rattle.tm_world.specs.Outside.{disk, took, spoke, attached, attached_count, part_of};
 ghost use Rattle.tm_world.specs.Log.{now, Steps, Says, Writes};
 ghost use Rattle.tm_world.specs.Faults.{Rose, NeverLess};
 ghost use Rattle.tm_world.specs.Pairs.{MayLeave};
 ghost use Rattle.tm_world.specs.Torn.{as_read};
-ghost use Rattle.tm_memworld.specs.Faults.{one_more};
+ghost use Rattle.tm_world.specs.Counts.{one_more};
 ghost use Rattle.tm_memworld.specs.Putting.{with_script};
 ghost use Rattle.tm_memworld.specs.State.{start, is_cut, used, called, faulted, with_outside, after_write, after_failed_write, after_sync, cannot_attach, with_image, with_place, after_stop, with_more};
 ghost use Rattle.tm_memworld.specs.World.{state, clock, blocks_of};
 
 use crate::devices::Devices;
 use crate::error::Memory;
-use crate::faults::Faults;
-use crate::plan::Plan;
+use crate::plan::FaultPlan;
 use std::alloc::Global;
-use tm_world::{Failed, Part, Side, World};
+use tm_world::{Failed, Faults, Part, Side, World};
 
 /// Images and scripts in memory, by path, with one clock (`docs/DISKS.md`, "A world in memory").
 ///
@@ -26,7 +26,7 @@ use tm_world::{Failed, Part, Side, World};
 #[derive(Drop)]
 pub struct MemWorld {
     devices: Devices,
-    plan: Plan,
+    plan: FaultPlan,
     faults: Faults,
 }
 
@@ -38,14 +38,14 @@ impl MemWorld {
     {
         Ok(MemWorld {
             devices: Devices::new(alloc),
-            plan: Plan::new(alloc),
+            plan: FaultPlan::new(alloc),
             faults: Faults::new(),
         })
     }
 
     /// Puts an image of zero blocks at a path, in the place of what stands there.
     pub fn put_image(&mut self, path: &str, blocks: u32) -> Result<(), Memory>
-        requires { blocks ≤ 262144 }
+        requires { blocks ≤ max_blocks }
         ensures ok { OnOk result (state self.new ≡ with_image path.now blocks (state self.old)) }
         ensures err { OnErr result (state self.new ≡ state self.old) }
     {
@@ -63,7 +63,7 @@ impl MemWorld {
     /// Takes memory for an image of at most so many blocks that `attach` may make at a path where nothing stands.
     /// Where an image stands it does nothing.
     pub fn put_place(&mut self, path: &str, blocks: u32) -> Result<(), Memory>
-        requires { blocks ≤ 262144 }
+        requires { blocks ≤ max_blocks }
         ensures ok { OnOk result (state self.new ≡ with_place path.now blocks (state self.old)) }
         ensures err { OnErr result (state self.new ≡ state self.old) }
     {
@@ -156,7 +156,7 @@ impl MemWorld {
         ensures stays { IfNone result (Steps (clock self.old) (clock self.new) (now (clock self.old))) }
         ensures count { IfSome result (λ n. n ≡ attached_count part (now (clock self.new))) }
         ensures script { part ≡ Part.Script → OnSome result (IsSome ((now (clock self.old)).scripts path.now)) }
-        ensures most { IfSome result (λ n. n ≤ 262144) }
+        ensures most { IfSome result (λ n. n ≤ max_blocks) }
         ensures other { (side : Side) → part_of side ≢ part → OnSome result (blocks_of self.new side ≡ blocks_of self.old side) }
         ensures state { state self.new ≡ used 0 0 (with_outside (now (clock self.new)) (state self.old)) }
     {
@@ -215,12 +215,12 @@ impl World for MemWorld {
     /// more than 1,023 bytes.
     fn attach(&mut self, part: Part, path: &str, create: Option<u32>) -> Result<u32, Failed>
         requires part { part ≢ Part.Out }
-        requires create { ForSome create (λ n. (1 ≤ n) × (n ≤ 262144)) }
+        requires create { ForSome create (λ n. (1 ≤ n) × (n ≤ max_blocks)) }
         ensures ok { OnOk result (Steps (clock self.old) (clock self.new) (attached part path.now create (now (clock self.old)))) }
         ensures err { OnErr result (Steps (clock self.old) (clock self.new) (now (clock self.old))) }
         ensures count { IfOk result (λ n. n ≡ attached_count part (now (clock self.new))) }
         ensures script { part ≡ Part.Script → OnOk result (IsSome ((now (clock self.old)).scripts path.now)) }
-        ensures most { IfOk result (λ n. n ≤ 262144) }
+        ensures most { IfOk result (λ n. n ≤ max_blocks) }
         ensures blocks { (side : Side) → part_of side ≡ part → IfOk result (λ n. blocks_of self.new side ≡ n) }
         ensures other { (side : Side) → part_of side ≢ part → blocks_of self.new side ≡ blocks_of self.old side }
         ensures never_less { NeverLess (state self.old).faults (state self.new).faults }
@@ -305,17 +305,17 @@ impl World for MemWorld {
         requires { 0 < length into.old }
         ensures within { IfOk result (λ n. n ≤ length into.new) }
         ensures steps { IfOk result (λ n. Steps (clock self.old) (clock self.new) (took n (now (clock self.old)))) }
-        ensures bytes { IfOk result (λ n. take n into.new ≡ take n (now (clock self.old)).left) }
-        ensures fits { IfOk result (λ n. n ≤ length (now (clock self.old)).left) }
-        ensures end { IfOk result (λ n. (n ≡ 0) ↔ ((now (clock self.old)).left ≡ [])) }
+        ensures bytes { IfOk result (λ n. take n into.new ≡ take n (now (clock self.old)).unread) }
+        ensures fits { IfOk result (λ n. n ≤ length (now (clock self.old)).unread) }
+        ensures end { IfOk result (λ n. (n ≡ 0) ↔ ((now (clock self.old)).unread ≡ [])) }
         ensures err { OnErr result (Steps (clock self.old) (clock self.new) (now (clock self.old))) }
         ensures blocks { blocks_of self.new ≡ blocks_of self.old }
         ensures never_less { NeverLess (state self.old).faults (state self.new).faults }
         ensures cause { OnErr result (Rose ((state self.old).faults Part.Script) ((state self.new).faults Part.Script)) }
 
         ensures fails { IsErr result ↔ IsTrue (is_cut 0 0 (state self.old)) }
-        ensures most { IfOk result (λ n. n ≡ min (length into.old) (length (state self.old).outside.left)) }
-        ensures moved { IfOk result (λ n. into.new ≡ take n (state self.old).outside.left ++ drop n into.old) }
+        ensures most { IfOk result (λ n. n ≡ min (length into.old) (length (state self.old).outside.unread)) }
+        ensures moved { IfOk result (λ n. into.new ≡ take n (state self.old).outside.unread ++ drop n into.old) }
         ensures after_ok { IfOk result (λ n. state self.new ≡ called 0 0 (with_outside (took n (state self.old).outside) (state self.old))) }
         ensures after_err { OnErr result (state self.new ≡ faulted Part.Script (called 0 0 (state self.old))) }
         ensures rest { OnErr result (into.new ≡ into.old) }

@@ -15,11 +15,11 @@ use Rattle.tm_base.specs.Days.{last_moment}
 use Rattle.tm_codec.specs.Fields.{short_text, long_text}
 use Rattle.tm_nodes.specs.Targets.{IsTarget}
 use Rattle.tm_nodes.specs.Reading.{bytes_at, short_at, long_at, is_name, is_target, name_at, target_at, moment_at}
-use Rattle.tm_nodes.proofs.Formats.{Takes, Reads, alike, then_reads, only_if_reads}
+use Rattle.tm_nodes.proofs.Formats.{Takes, IsReader, alike, then_reads, only_if_reads}
 use Rattle.tm_nodes.proofs.Numbers.{u8_reads, u16_reads, u64_reads}
 use Rattle.tm_codec.specs.Fields.{u64_text}
 
-bytes_reads : (n : ℕ) → Reads (bytes_at n) (λ part. length part ≡ n) (λ part. part)
+bytes_reads : (n : ℕ) → IsReader (bytes_at n) (λ part. length part ≡ n) (λ part. part)
 unfolding bytes_at
 bytes_reads n = record { takes = taken; again = given }
   where
@@ -38,11 +38,11 @@ bytes_reads n = record { takes = taken; again = given }
         ap (λ t. cond t (Some (take n (part ++ rest), drop n (part ++ rest))) None) (le-leb n (length (part ++ rest)) (omega (arith, length-append part rest)))
         ∙ (λ i. Some (take_at part rest n len i, drop_at part rest n len i))
 
-pub short_reads : Reads short_at (λ part. length part < 2 ^ 8) short_text
+pub short_reads : IsReader short_at (λ part. length part < 2 ^ 8) short_text
 unfolding short_at short_text
 short_reads = alike (then_reads length u8_reads bytes_reads (λ n part small len. len)) (λ part kept. kept.0) (λ part small. (small, refl)) (λ part small. refl)
 
-pub long_reads : Reads long_at (λ part. length part < 2 ^ 16) long_text
+pub long_reads : IsReader long_at (λ part. length part < 2 ^ 16) long_text
 unfolding long_at long_text
 long_reads = alike (then_reads length u16_reads bytes_reads (λ n part small len. len)) (λ part kept. kept.0) (λ part small. (small, refl)) (λ part small. refl)
 
@@ -75,21 +75,21 @@ Decides-target bytes =
     (λ t. (((t.some, t.short), t.text), t.plain))
     (Decides-and _ _ text plain)
 
-pub name_reads : Reads name_at IsName short_text
+pub name_reads : IsReader name_at IsName short_text
 unfolding name_at
 name_reads = alike (then_reads (λ name. name) short_reads (λ name. only_if_reads (is_name name) name) (λ name got small kept. kept.0))
     (λ name kept. (Decides-name name).0 kept.1.1)
     (λ name is. (omega (arith, is.short), (refl, (Decides-name name).1 is)))
     (λ name is. append-nil (short_text name))
 
-pub target_reads : Reads target_at IsTarget long_text
+pub target_reads : IsReader target_at IsTarget long_text
 unfolding target_at
 target_reads = alike (then_reads (λ target. target) long_reads (λ target. only_if_reads (is_target target) target) (λ target got small kept. kept.0))
     (λ target kept. (Decides-target target).0 kept.1.1)
     (λ target is. (omega (arith, is.short), (refl, (Decides-target target).1 is)))
     (λ target is. append-nil (long_text target))
 
-pub moment_reads : Reads moment_at (λ m. m ≤ last_moment) u64_text
+pub moment_reads : IsReader moment_at (λ m. m ≤ last_moment) u64_text
 unfolding moment_at
 moment_reads = alike (then_reads (λ m. m) u64_reads (λ m. only_if_reads (leb m last_moment) m) (λ m got small kept. kept.0))
     (λ m kept. leb-true m last_moment kept.1.1)

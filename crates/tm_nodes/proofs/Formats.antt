@@ -3,6 +3,7 @@ use Rattle.std.proofs.Common.{◌≡◌, ℕ, zero, suc, ◌≤◌, Bool, true, 
 use Rattle.std.specs.List.{flat_map}
 use Rattle.std.proofs.lemmas.List.{append-nil, length-append, nil_from_length}
 use Rattle.std.specs.Prelude.{IfOk}
+use Rattle.tm_base.proofs.Facts.{some_is, none_some}
 use Rattle.tm_nodes.specs.declared.error.NodeError.{NodeError}
 use Rattle.tm_nodes.specs.declared.error.NodeError.TheVariants.{BadNode, Memory}
 use Rattle.tm_nodes.specs.Answers.{IfBad, Tells}
@@ -18,32 +19,26 @@ Takes-then : {a x b y c : List ℕ} → Takes a x b → Takes b y c → Takes a 
 Takes-then {a} {x} {b} {y} {c} p q = record { is = p.is ∙ ap (λ t. x ++ t) q.is ∙ sym (append_assoc x y c) }
 
 -- what is read keeps the rule and stands at the front by its text; and whatever keeps it is read from its text
-pub record Reads {A : Type 0} (read : Reader A) (Keeps : A → Type 0) (text : A → List ℕ) : Type 0 where
+pub record IsReader {A : Type 0} (read : Reader A) (Keeps : A → Type 0) (text : A → List ℕ) : Type 0 where
   pub takes : (bytes : List ℕ) (x : A × List ℕ) → read bytes ≡ Some x → Keeps x.0 × Takes bytes (text x.0) x.1
   pub again : (a : A) (rest : List ℕ) → Keeps a → read (text a ++ rest) ≡ Some (a, rest)
 
-some_is : {A : Type 0} (x y : A) → Some x ≡ Some y → x ≡ y
-some_is x y e = cc
-
-none_some : {A P : Type 0} (x : A) → None ≡ Some x → P
-none_some x e = cc
-
 -- the rule and the text in other words
-pub alike : {A : Type 0} {read : Reader A} {Keeps Holds : A → Type 0} {text spelling : A → List ℕ} → Reads read Keeps text
-    → ((a : A) → Keeps a → Holds a) → ((a : A) → Holds a → Keeps a) → ((a : A) → Holds a → text a ≡ spelling a) → Reads read Holds spelling
+pub alike : {A : Type 0} {read : Reader A} {Keeps Holds : A → Type 0} {text spelling : A → List ℕ} → IsReader read Keeps text
+    → ((a : A) → Keeps a → Holds a) → ((a : A) → Holds a → Keeps a) → ((a : A) → Holds a → text a ≡ spelling a) → IsReader read Holds spelling
 alike {A} {read} {Keeps} {Holds} {text} {spelling} r to from same = record {
   takes = λ bytes x e. let t = r.takes bytes x e in let k = to x.0 t.0 in (k, subst (λ s. Takes bytes s x.1) (same x.0 k) t.1);
   again = λ a rest k. subst (λ s. read (s ++ rest) ≡ Some (a, rest)) (same a k) (r.again a rest (from a k));
 }
 
 went_on : {A B : Type 0} (o : Option (A × List ℕ)) (next : A → Reader B) (y : B × List ℕ) → go_on o next ≡ Some y → (x : A × List ℕ) × (o ≡ Some x) × (next x.0 x.1 ≡ Some y)
-went_on None next y e = none_some y e
+went_on None next y e = none_some e
 went_on (Some x) next y e = (x, refl, e)
 
 -- one after the other: the second is read after any first
 pub then_reads : {A B : Type 0} {read : Reader A} {Keeps : A → Type 0} {text : A → List ℕ} {next : A → Reader B} {Holds : A → B → Type 0} {rest_text : B → List ℕ}
-    → (part : B → A) → Reads read Keeps text → ((a : A) → Reads (next a) (Holds a) rest_text) → ((a : A) (b : B) → Keeps a → Holds a b → part b ≡ a)
-    → Reads (and_then read next) (λ b. Keeps (part b) × Holds (part b) b) (λ b. text (part b) ++ rest_text b)
+    → (part : B → A) → IsReader read Keeps text → ((a : A) → IsReader (next a) (Holds a) rest_text) → ((a : A) (b : B) → Keeps a → Holds a b → part b ≡ a)
+    → IsReader (and_then read next) (λ b. Keeps (part b) × Holds (part b) b) (λ b. text (part b) ++ rest_text b)
 unfolding and_then
 then_reads {A} {B} {read} {Keeps} {text} {next} {Holds} {rest_text} part r s same = record {
   takes = λ bytes y e.
@@ -57,21 +52,21 @@ then_reads {A} {B} {read} {Keeps} {text} {next} {Holds} {rest_text} part r s sam
       ∙ (s (part b)).again b rest k.1;
 }
 
-pub done_reads : {A : Type 0} (a : A) → Reads (done a) (λ b. b ≡ a) (λ b. [])
+pub done_reads : {A : Type 0} (a : A) → IsReader (done a) (λ b. b ≡ a) (λ b. [])
 unfolding done
 done_reads {A} a = record {
   takes = λ bytes x e. let same = some_is (a, bytes) x e in (sym (ap (λ (p : A × List ℕ). p.0) same), record { is = ap (λ (p : A × List ℕ). p.1) same });
   again = λ b rest e. ap (λ x. Some (x, rest)) (sym e);
 }
 
-pub only_if_reads : {A : Type 0} (test : Bool) (a : A) → Reads (only_if test a) (λ b. (b ≡ a) × (test ≡ true)) (λ b. [])
+pub only_if_reads : {A : Type 0} (test : Bool) (a : A) → IsReader (only_if test a) (λ b. (b ≡ a) × (test ≡ true)) (λ b. [])
 unfolding only_if
 only_if_reads {A} true a = record {
   takes = λ bytes x e. let same = some_is (a, bytes) x e in ((sym (ap (λ (p : A × List ℕ). p.0) same), refl), record { is = ap (λ (p : A × List ℕ). p.1) same });
   again = λ b rest k. ap (λ x. Some (x, rest)) (sym k.0);
 }
 only_if_reads {A} false a = record {
-  takes = λ bytes x e. none_some x e;
+  takes = λ bytes x e. none_some e;
   again = λ b rest k. absurd (let no = k.1 in cc);
 }
 
@@ -82,16 +77,16 @@ Chain Follows before (x ∷ xs) = Follows before x × Chain Follows (Some x) xs
 
 -- ---- lists
 
-module _ {A : Type 0} {read : Option A → Reader A} {Follows : Option A → A → Type 0} {text : A → List ℕ} (r : (before : Option A) → Reads (read before) (Follows before) text) where
-  many-none : (before : Option A) → Reads (many read 0 before) (λ xs. (length xs ≡ 0) × Chain Follows before xs) (flat_map text)
+module _ {A : Type 0} {read : Option A → Reader A} {Follows : Option A → A → Type 0} {text : A → List ℕ} (r : (before : Option A) → IsReader (read before) (Follows before) text) where
+  many-none : (before : Option A) → IsReader (many read 0 before) (λ xs. (length xs ≡ 0) × Chain Follows before xs) (flat_map text)
   unfolding many Chain
   many-none before = alike (done_reads [])
       (λ xs e. subst (λ (ys : List A). (length ys ≡ 0) × Chain Follows before ys) (sym e) (refl, tt))
       (λ xs k. nil_from_length xs k.0)
       (λ xs k. ap (flat_map text) (sym (nil_from_length xs k.0)))
 
-  many-more : (n : ℕ) → ((before : Option A) → Reads (many read n before) (λ xs. (length xs ≡ n) × Chain Follows before xs) (flat_map text))
-      → (before : Option A) → Reads (many read (suc n) before) (λ xs. (length xs ≡ suc n) × Chain Follows before xs) (flat_map text)
+  many-more : (n : ℕ) → ((before : Option A) → IsReader (many read n before) (λ xs. (length xs ≡ n) × Chain Follows before xs) (flat_map text))
+      → (before : Option A) → IsReader (many read (suc n) before) (λ xs. (length xs ≡ suc n) × Chain Follows before xs) (flat_map text)
   unfolding many Chain and_then done
   many-more n fewer before = record { takes = taken; again = given }
     where
@@ -112,7 +107,7 @@ module _ {A : Type 0} {read : Option A → Reader A} {Follows : Option A → A �
           ∙ ap (λ o. go_on o (λ first. and_then (many read n (Some first)) (λ others. done (first ∷ others)))) ((r before).again x (flat_map text xs ++ rest) k.1.0)
           ∙ ap (λ o. go_on o (λ others. done (x ∷ others))) ((fewer (Some x)).again xs rest (omega (arith, k.0), k.1.1))
 
-  pub many_reads : (n : ℕ) (before : Option A) → Reads (many read n before) (λ xs. (length xs ≡ n) × Chain Follows before xs) (flat_map text)
+  pub many_reads : (n : ℕ) (before : Option A) → IsReader (many read n before) (λ xs. (length xs ≡ n) × Chain Follows before xs) (flat_map text)
   many_reads zero before = many-none before
   many_reads (suc n) before = many-more n (many_reads n) before
 
@@ -128,7 +123,7 @@ module _ {A : Type 0} {read : Option A → Reader A} {Follows : Option A → A �
   unfolding to_end Chain and_then done
   to_end_takes zero before [] y e = subst (λ (z : List A × List ℕ). (length z.0 ≤ 0) × Chain Follows before z.0 × ([] ≡ flat_map text z.0)) (some_is ([], []) y e) (omega arith, tt, refl)
   to_end_takes (suc n) before [] y e = subst (λ (z : List A × List ℕ). (length z.0 ≤ suc n) × Chain Follows before z.0 × ([] ≡ flat_map text z.0)) (some_is ([], []) y e) (omega arith, tt, refl)
-  to_end_takes zero before (b ∷ bytes) y e = none_some y e
+  to_end_takes zero before (b ∷ bytes) y e = none_some e
   to_end_takes (suc n) before (b ∷ bytes) y e =
       let w = went_on (read before (b ∷ bytes)) (λ first. and_then (to_end read n (Some first)) (λ others. done (first ∷ others))) y e in
       let v = went_on (to_end read n (Some w.0.0) w.0.1) (λ others. done (w.0.0 ∷ others)) y w.2 in
@@ -152,26 +147,26 @@ module _ {A : Type 0} {read : Option A → Reader A} {Follows : Option A → A �
 -- ---- whole bytes
 
 alone-is : {A : Type 0} (a : A) (o : Option (A × List ℕ)) → value_alone o ≡ Some a → o ≡ Some (a, [])
-alone-is a None e = none_some a e
+alone-is a None e = none_some e
 alone-is {A} a (Some x) e = ap (λ y. Some y) (ended x.0 x.1 e)
   where
     ended : (b : A) (rest : List ℕ) → before_nothing b rest ≡ Some a → ◌≡◌ {A = A × List ℕ} (b, rest) (a, [])
     ended b [] f = ap (λ c. (c, [])) (some_is b a f)
-    ended b (c ∷ rest) f = none_some a f
+    ended b (c ∷ rest) f = none_some f
 
 -- what is found in bytes is what they spell
 pub record Finds {A : Type 0} (found : List ℕ → Option A) (Keeps : A → Type 0) (text : A → List ℕ) : Type 0 where
   pub is : (bytes : List ℕ) (a : A) → found bytes ≡ Some a → IsSpelled text Keeps bytes a
   pub again : (bytes : List ℕ) (a : A) → IsSpelled text Keeps bytes a → found bytes ≡ Some a
 
-pub whole_finds : {A : Type 0} {read : Reader A} {Keeps : A → Type 0} {text : A → List ℕ} → Reads read Keeps text → Finds (whole read) Keeps text
+pub whole_finds : {A : Type 0} {read : Reader A} {Keeps : A → Type 0} {text : A → List ℕ} → IsReader read Keeps text → Finds (whole read) Keeps text
 unfolding whole
 whole_finds {A} {read} {Keeps} {text} r = record {
   is = λ bytes a e. let t = r.takes bytes (a, []) (alone-is a (read bytes) e) in record { rules = t.0; spelled = t.1.is ∙ append-nil (text a) };
   again = λ bytes a is. let at_end : bytes ≡ text a ++ [] = is.spelled ∙ sym (append-nil (text a)) in ap value_alone (ap read at_end ∙ r.again a [] is.rules);
 }
 
-module _ {A : Type 0} {read : Option A → Reader A} {Follows : Option A → A → Type 0} {text : A → List ℕ} (r : (before : Option A) → Reads (read before) (Follows before) text)
+module _ {A : Type 0} {read : Option A → Reader A} {Follows : Option A → A → Type 0} {text : A → List ℕ} (r : (before : Option A) → IsReader (read before) (Follows before) text)
     (some : (before : Option A) (x : A) → Follows before x → 1 ≤ length (text x)) where
   pub to_end_is : (n : ℕ) (bytes : List ℕ) (xs : List A) → whole (to_end read n None) bytes ≡ Some xs → (length xs ≤ n) × Chain Follows None xs × (bytes ≡ flat_map text xs)
   unfolding whole
@@ -198,7 +193,7 @@ module _ {A : Type 0} {found : List ℕ → Option A} {Keeps : A → Type 0} {te
   pub answer_bad : (key : ℕ) (bytes : List ℕ) (answer : Result A NodeError) → Tells key answer (found bytes) → IfBad answer (λ k. (k ≡ key) × IsUnspelled text Keeps bytes)
   answer_bad key bytes (Ok a) told = tt
   answer_bad key bytes (Err Memory) told = tt
-  answer_bad key bytes (Err (BadNode k)) told = (told.0, λ a rules spelled. none_some a (sym told.1 ∙ f.again bytes a (record { rules = rules; spelled = spelled })))
+  answer_bad key bytes (Err (BadNode k)) told = (told.0, λ a rules spelled. none_some (sym told.1 ∙ f.again bytes a (record { rules = rules; spelled = spelled })))
 
 pub IfBad-weaker : {A : Type 0} (answer : Result A NodeError) {P Q : ℕ → Type 0} → IfBad answer P → ((k : ℕ) → P k → Q k) → IfBad answer Q
 IfBad-weaker (Ok a) bad weaker = tt

@@ -7,11 +7,11 @@ use Rattle.tm_nodes.specs.declared.snapshot.SnapshotRow.{SnapshotRow}
 use Rattle.tm_nodes.specs.Headers.{volume_text, machine_text, snapshot_text, IsVolumeHead, IsSnapshotRow}
 use Rattle.tm_nodes.specs.Reading.{volume_at, snapshot_at}
 use Rattle.tm_nodes.specs.Records.{volume_of, machine_of, snapshot_of}
-use Rattle.tm_nodes.proofs.Formats.{Reads, Finds, alike, then_reads, done_reads, whole_finds}
+use Rattle.tm_nodes.proofs.Formats.{IsReader, Finds, alike, then_reads, done_reads, whole_finds}
 use Rattle.tm_nodes.proofs.Numbers.{u32_reads, u64_reads, u128_reads}
 use Rattle.tm_nodes.proofs.Fields.{name_reads, moment_reads}
 
-volume_reads : Reads volume_at IsVolumeHead volume_text
+volume_reads : IsReader volume_at IsVolumeHead volume_text
 unfolding volume_at volume_text
 volume_reads = alike
     (then_reads (λ head. head.id) u128_reads
@@ -25,7 +25,7 @@ volume_reads = alike
     (λ head is. (is.id, (is.capacity, (is.name, refl))))
     (λ head is. simp (append_assoc, append-nil))
 
-snapshot_reads : Reads snapshot_at IsSnapshotRow snapshot_text
+snapshot_reads : IsReader snapshot_at IsSnapshotRow snapshot_text
 unfolding snapshot_at snapshot_text
 snapshot_reads = alike
     (then_reads (λ row. row.date) moment_reads

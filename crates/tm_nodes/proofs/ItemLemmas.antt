@@ -20,7 +20,7 @@ use Rattle.tm_nodes.specs.Answers.{IfBad, Tells}
 use Rattle.tm_nodes.specs.Spelled.{IsUnspelled}
 use Rattle.tm_nodes.specs.Records.{item_of}
 use Rattle.tm_nodes.specs.Reading.{is_name, item_name_at, item_body_at, item_at}
-use Rattle.tm_nodes.proofs.Formats.{Reads, alike, then_reads, done_reads, only_if_reads, Finds, whole_finds, answer_bad, IfBad-weaker}
+use Rattle.tm_nodes.proofs.Formats.{IsReader, alike, then_reads, done_reads, only_if_reads, Finds, whole_finds, answer_bad, IfBad-weaker}
 use Rattle.tm_nodes.proofs.Numbers.{u32_reads}
 use Rattle.tm_nodes.proofs.Fields.{short_reads, Decides-name}
 use Rattle.tm_nodes.proofs.Parts.{attrs_reads}
@@ -53,7 +53,7 @@ name_from (Some name) is =
     let some : eqb (length name) 0 ≡ false = ne_eqb (length name) 0 (λ e. absurd (omega (arith, is.some))) in
     (omega (arith, is.short), (ap (λ t. cond t None (Some name)) (sym some), ap (λ t. t || is_name name) some ∙ (Decides-name name).1 is))
 
-item_name_reads : Reads item_name_at (λ o. IfSome o IsName) (λ o. short_text (item_name o))
+item_name_reads : IsReader item_name_at (λ o. IfSome o IsName) (λ o. short_text (item_name o))
 unfolding item_name_at
 item_name_reads = alike
     (then_reads item_name short_reads (λ name. only_if_reads (is_named name) (named name)) (λ name o small kept. ap item_name kept.0 ∙ named-same name))
@@ -104,7 +104,7 @@ folder_from size attrs (Folder a) is = ap (λ x. Folder x) is.attrs_is
 folder_from size attrs (Leaf (leaf.File a s n)) is = let e = is.kind_is in absurd cc
 folder_from size attrs (Leaf (leaf.Link a s t)) is = let e = is.kind_is in absurd cc
 
-body_reads : (size : ℕ) (attrs : Attrs) (what : Kind) → Reads (item_body_at size attrs what) (IsBodyOf size attrs what) item_tail
+body_reads : (size : ℕ) (attrs : Attrs) (what : Kind) → IsReader (item_body_at size attrs what) (IsBodyOf size attrs what) item_tail
 unfolding item_body_at leaf_of
 body_reads size attrs kind.Folder = alike (done_reads (Folder attrs))
     (λ body e. subst (IsBodyOf size attrs kind.Folder) (sym e) (record { kind_is = refl; attrs_is = refl; tail = tt; size_is = tt }))
@@ -115,7 +115,7 @@ body_reads size attrs kind.File = alike (then_reads leaf_of (file_reads size att
 body_reads size attrs kind.Link = alike (then_reads leaf_of (link_reads size attrs) (λ l. done_reads (Leaf l)) (λ l body is e. ap leaf_of e))
     (leaf_to size attrs kind.Link) (link_from size attrs) (link_text size attrs)
 
-item_reads : (size : ℕ) → Reads (item_at size) (IsItemOfSize size) item_text
+item_reads : (size : ℕ) → IsReader (item_at size) (IsItemOfSize size) item_text
 unfolding item_at item_text
 item_reads size = alike
     (then_reads (λ row. item_kind row.body) kind_reads

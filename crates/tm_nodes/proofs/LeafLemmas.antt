@@ -12,11 +12,11 @@ use Rattle.tm_nodes.specs.Targets.{IsTarget}
 use Rattle.tm_nodes.specs.Kinds.{kind_number, kind_text}
 use Rattle.tm_nodes.specs.Leaves.{leaf_kind, leaf_attrs, leaf_tail, IsLeafTail, HasSize}
 use Rattle.tm_nodes.specs.Reading.{kind_of, or_none, kind_at, file_at, link_at}
-use Rattle.tm_nodes.proofs.Formats.{Reads, alike, then_reads, done_reads}
+use Rattle.tm_nodes.proofs.Formats.{IsReader, alike, then_reads, done_reads}
 use Rattle.tm_nodes.proofs.Numbers.{u8_reads, u64_reads}
 use Rattle.tm_nodes.proofs.Fields.{target_reads}
 
-or_none_reads : {A : Type 0} (o : Option A) → Reads (or_none o) (λ a. o ≡ Some a) (λ a. [])
+or_none_reads : {A : Type 0} (o : Option A) → IsReader (or_none o) (λ a. o ≡ Some a) (λ a. [])
 or_none_reads {A} None = record { takes = λ bytes x e. absurd cc; again = λ a rest e. cc }
 or_none_reads {A} (Some b) = record {
   takes = λ bytes x e. let same : (b, bytes) ≡ x = cc in (ap (λ (p : A × List ℕ). Some p.0) same, record { is = ap (λ (p : A × List ℕ). p.1) same });
@@ -49,7 +49,7 @@ kind_small kind.Folder = omega arith
 kind_small kind.File = omega arith
 kind_small kind.Link = omega arith
 
-pub kind_reads : Reads kind_at (λ k. Unit {0}) kind_text
+pub kind_reads : IsReader kind_at (λ k. Unit {0}) kind_text
 unfolding kind_at kind_text
 kind_reads = alike (then_reads kind_number u8_reads (λ n. or_none_reads (kind_of n)) (λ n k small e. kind_of-some n k e))
     (λ k kept. tt)
@@ -89,7 +89,7 @@ unfolding stamp_of
 file_text size attrs (File a s n) is = append-nil (u64_text s)
 file_text size attrs (Link a s t) is = let e = is.kind_is in absurd cc
 
-pub file_reads : (size : ℕ) (attrs : Attrs) → Reads (file_at size attrs) (IsLeafOf size attrs kind.File) leaf_tail
+pub file_reads : (size : ℕ) (attrs : Attrs) → IsReader (file_at size attrs) (IsLeafOf size attrs kind.File) leaf_tail
 unfolding file_at stamp_of
 file_reads size attrs = alike (then_reads stamp_of u64_reads (λ s. done_reads (File attrs s size)) (λ s leaf small e. ap stamp_of e))
     (file_to size attrs) (file_from size attrs) (file_text size attrs)
@@ -112,7 +112,7 @@ unfolding stamp_of target_of
 link_text size attrs (File a s n) is = let e = is.kind_is in absurd cc
 link_text size attrs (Link a s t) is = ap (λ r. u64_text s ++ r) (append-nil (long_text t))
 
-pub link_reads : (size : ℕ) (attrs : Attrs) → Reads (link_at attrs) (IsLeafOf size attrs kind.Link) leaf_tail
+pub link_reads : (size : ℕ) (attrs : Attrs) → IsReader (link_at attrs) (IsLeafOf size attrs kind.Link) leaf_tail
 unfolding link_at stamp_of target_of
 link_reads size attrs = alike
     (then_reads stamp_of u64_reads

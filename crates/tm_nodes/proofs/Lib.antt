@@ -1,6 +1,7 @@
 pub mod Formats
-mod Numbers
-mod Fields
+pub mod Numbers
+pub mod Lengths
+pub mod Fields
 mod Places
 mod Orders
 mod Parts

@@ -22,7 +22,7 @@ use Rattle.tm_nodes.specs.Answers.{IfBad, Tells}
 use Rattle.tm_nodes.specs.Spelled.{IsUnspelled}
 use Rattle.tm_nodes.specs.Records.{node_of}
 use Rattle.tm_nodes.specs.Reading.{is_after, child_at, next_child_at, entries_at, node_body_at, node_at}
-use Rattle.tm_nodes.proofs.Formats.{Reads, alike, then_reads, done_reads, only_if_reads, many_reads, Finds, whole_finds, answer_bad, IfBad-weaker}
+use Rattle.tm_nodes.proofs.Formats.{IsReader, alike, then_reads, done_reads, only_if_reads, many_reads, Finds, whole_finds, answer_bad, IfBad-weaker}
 use Rattle.tm_nodes.proofs.Numbers.{u32_reads, u64_reads}
 use Rattle.tm_nodes.proofs.Fields.{name_reads}
 use Rattle.tm_nodes.proofs.Orders.{is_after-true, is_after-from, Follows, chain_each, chain_sorted, chain_from}
@@ -31,7 +31,7 @@ use Rattle.tm_nodes.proofs.LeafLemmas.{kind_reads, IsLeafOf, file_reads, link_re
 
 -- ---- entries
 
-child_reads : Reads child_at IsChild child_text
+child_reads : IsReader child_at IsChild child_text
 unfolding child_at child_text
 child_reads = alike
     (then_reads (λ x. x.name) name_reads
@@ -44,7 +44,7 @@ child_reads = alike
 abbrev NextChild : Option Child → Child → Type 0
 NextChild = Follows name_cmp (λ x. x.name) IsChild
 
-pub next_child_reads : (before : Option Child) → Reads (next_child_at before) (NextChild before) child_text
+pub next_child_reads : (before : Option Child) → IsReader (next_child_at before) (NextChild before) child_text
 unfolding next_child_at
 next_child_reads before =
     let low : Option (List ℕ) = option_map (λ x. x.name) before in
@@ -54,7 +54,7 @@ next_child_reads before =
     (λ x is. (is.rules, (refl, is_after-from name_cmp low x.name is.after)))
     (λ x is. append-nil (child_text x))
 
-entries_reads : Reads entries_at AreEntries entries_text
+entries_reads : IsReader entries_at AreEntries entries_text
 unfolding entries_at entries_text
 entries_reads = alike
     (then_reads length u32_reads (λ count. many_reads next_child_reads count None) (λ n xs small kept. kept.0))
@@ -128,7 +128,7 @@ folder_text size attrs (Folder a entries) is = append-nil (entries_text entries)
 folder_text size attrs (Leaf (leaf.File a s n)) is = let e = is.kind_is in absurd cc
 folder_text size attrs (Leaf (leaf.Link a s t)) is = let e = is.kind_is in absurd cc
 
-body_reads : (size : ℕ) (attrs : Attrs) (what : Kind) → Reads (node_body_at size attrs what) (IsBodyOf size attrs what) node_tail
+body_reads : (size : ℕ) (attrs : Attrs) (what : Kind) → IsReader (node_body_at size attrs what) (IsBodyOf size attrs what) node_tail
 unfolding node_body_at leaf_of entries_of
 body_reads size attrs kind.Folder = alike (then_reads entries_of entries_reads (λ entries. done_reads (Folder attrs entries)) (λ entries body is e. ap entries_of e))
     (folder_to size attrs) (folder_from size attrs) (folder_text size attrs)
@@ -137,7 +137,7 @@ body_reads size attrs kind.File = alike (then_reads leaf_of (file_reads size att
 body_reads size attrs kind.Link = alike (then_reads leaf_of (link_reads size attrs) (λ l. done_reads (Leaf l)) (λ l body is e. ap leaf_of e))
     (leaf_to size attrs kind.Link) (link_from size attrs) (link_text size attrs)
 
-node_reads : (size : ℕ) → Reads (node_at size) (IsNodeOfSize size) node_text
+node_reads : (size : ℕ) → IsReader (node_at size) (IsNodeOfSize size) node_text
 unfolding node_at node_text
 node_reads size = alike
     (then_reads (λ row. node_kind row.body) kind_reads

@@ -5,34 +5,12 @@ use Rattle.std.proofs.Math.Nat.{pow-suc, mul-le-mul_right}
 use Rattle.std.proofs.lemmas.Nat.{div-mul-add, div_below}
 use Rattle.std.proofs.lemmas.List.{append-nil}
 use Rattle.std.proofs.lemmas.Bool.{ltb-true, lt-ltb}
+use Rattle.tm_codec.proofs.BigEndian.{byte_at-is, pos, split, low_bytes}
 use Rattle.tm_codec.specs.Fields.{u8_text, u16_text, u32_text, u64_text, u128_text}
 use Rattle.tm_nodes.specs.Reading.{next_byte, number_at, u8_at, u16_at, u32_at, u64_at, u128_at}
-use Rattle.tm_nodes.proofs.Formats.{Takes, Reads, alike, then_reads, done_reads}
+use Rattle.tm_nodes.proofs.Formats.{Takes, IsReader, alike, then_reads, done_reads}
 
-byte_at-is : (k n : ℕ) → byte_at k n ≡ n / 256 ^ k % 256
-byte_at-is zero n = omega arith
-byte_at-is (suc k) n = refl
-
-pos : (k : ℕ) → 0 < 256 ^ k
-pos zero = omega arith
-pos (suc k) = omega (arith, pow-suc 256 k, pos k)
-
-split : (n p : ℕ) → 0 < p → n ≡ n / p * p + n % p
-split n p h = omega arith
-
--- a multiple of 256 ^ k changes none of the lowest k bytes
-low_bytes : (k q r n : ℕ) → n ≡ q * 256 ^ k + r → bytes_high_first k n ≡ bytes_high_first k r
-low_bytes zero q r n is = refl
-low_bytes (suc k) q r n is =
-    let p : ℕ = 256 ^ k in
-    let below : r % p < p = omega (arith, pos k) in
-    let whole : n ≡ (q * 256 + r / p) * p + r % p = omega (arith, is, ap (λ x. q * x) (pow-suc 256 k), split r p (pos k)) in
-    let high : (q * 256 + r / p) % 256 ≡ r / p % 256 = omega arith in
-    let head : byte_at k n ≡ byte_at k r = byte_at-is k n ∙ ap (λ m. m / p % 256) whole ∙ ap (λ m. m % 256) (div-mul-add (q * 256 + r / p) p (r % p) below) ∙ high ∙ sym (byte_at-is k r) in
-    let rest : bytes_high_first k n ≡ bytes_high_first k r = low_bytes k (q * 256 + r / p) (r % p) n whole ∙ sym (low_bytes k (r / p) (r % p) r (split r p (pos k))) in
-    λ i. head i ∷ rest i
-
-next_byte_reads : Reads next_byte (λ b. b < 256) (λ b. b ∷ [])
+next_byte_reads : IsReader next_byte (λ b. b < 256) (λ b. b ∷ [])
 unfolding next_byte
 next_byte_reads = record { takes = taken; again = given }
   where
@@ -66,7 +44,7 @@ parted k n small =
     let rest : bytes_high_first k (n % p) ++ [] ≡ bytes_high_first k n = append-nil (bytes_high_first k (n % p)) ∙ sym (low_bytes k q (n % p) n (split n p (pos k))) in
     λ i. head i ∷ rest i
 
-pub number_reads : (k : ℕ) → Reads (number_at k) (λ n. n < 256 ^ k) (bytes_high_first k)
+pub number_reads : (k : ℕ) → IsReader (number_at k) (λ n. n < 256 ^ k) (bytes_high_first k)
 unfolding number_at
 number_reads zero = alike (done_reads 0) (λ n e. omega (arith, e)) (λ n small. omega arith) (λ n small. refl)
 number_reads (suc k) =
@@ -79,22 +57,22 @@ number_reads (suc k) =
     (λ n small. (div_below n p 256 (pos k) (omega (arith, pow-suc 256 k)), (omega (arith, pos k), split n p (pos k))))
     (λ n small. parted k n small)
 
-pub u8_reads : Reads u8_at (λ n. n < 2 ^ 8) u8_text
+pub u8_reads : IsReader u8_at (λ n. n < 2 ^ 8) u8_text
 unfolding u8_at u8_text
 u8_reads = number_reads 1
 
-pub u16_reads : Reads u16_at (λ n. n < 2 ^ 16) u16_text
+pub u16_reads : IsReader u16_at (λ n. n < 2 ^ 16) u16_text
 unfolding u16_at u16_text
 u16_reads = number_reads 2
 
-pub u32_reads : Reads u32_at (λ n. n < 2 ^ 32) u32_text
+pub u32_reads : IsReader u32_at (λ n. n < 2 ^ 32) u32_text
 unfolding u32_at u32_text
 u32_reads = number_reads 4
 
-pub u64_reads : Reads u64_at (λ n. n < 2 ^ 64) u64_text
+pub u64_reads : IsReader u64_at (λ n. n < 2 ^ 64) u64_text
 unfolding u64_at u64_text
 u64_reads = number_reads 8
 
-pub u128_reads : Reads u128_at (λ n. n < 2 ^ 128) u128_text
+pub u128_reads : IsReader u128_at (λ n. n < 2 ^ 128) u128_text
 unfolding u128_at u128_text
 u128_reads = number_reads 16

@@ -14,12 +14,12 @@ use Rattle.tm_tree.specs.declared.attrs.Attrs.{Attrs}
 use Rattle.tm_tree.specs.Extras.{Values}
 use Rattle.tm_nodes.specs.Attrs.{extra_text, attrs_text, IsExtra, IsAttrs}
 use Rattle.tm_nodes.specs.Reading.{is_after, extra_at, next_extra_at, extras_at, attrs_at}
-use Rattle.tm_nodes.proofs.Formats.{Reads, alike, then_reads, only_if_reads, many_reads}
+use Rattle.tm_nodes.proofs.Formats.{IsReader, alike, then_reads, only_if_reads, many_reads}
 use Rattle.tm_nodes.proofs.Numbers.{u8_reads, u16_reads, u32_reads}
 use Rattle.tm_nodes.proofs.Fields.{long_reads, name_reads, moment_reads}
 use Rattle.tm_nodes.proofs.Orders.{is_after-true, is_after-from, Follows, chain_each, chain_sorted, chain_from}
 
-pub extra_reads : Reads extra_at IsExtra extra_text
+pub extra_reads : IsReader extra_at IsExtra extra_text
 unfolding extra_at extra_text
 extra_reads = alike
     (then_reads (λ x. x.0) name_reads
@@ -32,7 +32,7 @@ extra_reads = alike
 abbrev NextExtra : Option (List ℕ × List ℕ) → List ℕ × List ℕ → Type 0
 NextExtra = Follows name_cmp (λ x. x.0) IsExtra
 
-pub next_extra_reads : (before : Option (List ℕ × List ℕ)) → Reads (next_extra_at before) (NextExtra before) extra_text
+pub next_extra_reads : (before : Option (List ℕ × List ℕ)) → IsReader (next_extra_at before) (NextExtra before) extra_text
 unfolding next_extra_at
 next_extra_reads before =
     let low : Option (List ℕ) = option_map (λ x. x.0) before in
@@ -50,7 +50,7 @@ record AreExtras (extras : Values) : Type 0 where
 abbrev extras_text : Values → List ℕ
 extras_text extras = u8_text (length extras) ++ flat_map extra_text extras
 
-extras_reads : Reads extras_at AreExtras extras_text
+extras_reads : IsReader extras_at AreExtras extras_text
 unfolding extras_at
 extras_reads = alike
     (then_reads length u8_reads
@@ -64,7 +64,7 @@ extras_reads = alike
     (λ xs is. (omega (arith, is.few), ((refl, le-leb (length xs) 16 is.few), (refl, chain_from nat_list_cmp_total (λ x. x.0) IsExtra xs is.each is.rising))))
     (λ xs is. refl)
 
-pub attrs_reads : Reads attrs_at IsAttrs attrs_text
+pub attrs_reads : IsReader attrs_at IsAttrs attrs_text
 unfolding attrs_at attrs_text
 attrs_reads = alike
     (then_reads (λ a. a.mode) u16_reads

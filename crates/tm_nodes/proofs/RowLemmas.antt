@@ -19,7 +19,7 @@ use Rattle.tm_nodes.specs.Paths.{path_text, paths_text, IsPath, ArePaths}
 use Rattle.tm_nodes.specs.Rows.{row_text, rows_text, AreFlags, IsRow, AreRows}
 use Rattle.tm_nodes.specs.Reading.{is_after, path_at, next_path_at, are_flags, row_at, next_row_at}
 use Rattle.tm_nodes.specs.Records.{paths_of, rows_of}
-use Rattle.tm_nodes.proofs.Formats.{Reads, Chain, alike, then_reads, only_if_reads, many_reads, Finds, to_end_is, to_end_found}
+use Rattle.tm_nodes.proofs.Formats.{IsReader, Chain, alike, then_reads, only_if_reads, many_reads, Finds, to_end_is, to_end_found}
 use Rattle.tm_nodes.proofs.Numbers.{u8_reads, u64_reads}
 use Rattle.tm_nodes.proofs.Fields.{name_reads}
 use Rattle.tm_nodes.proofs.Orders.{less_from_is_lt, IsAfter, is_after-true, is_after-from, Follows, chain_each, chain_sorted, chain_from}
@@ -37,7 +37,7 @@ module _ {A : Type 0} (Keeps : A → Type 0) where
   chain_from_each before [] each = tt
   chain_from_each before (x ∷ xs) each = (each.0, chain_from_each (Some x) xs each.1)
 
-pub path_reads : Reads path_at IsPath path_text
+pub path_reads : IsReader path_at IsPath path_text
 unfolding path_at path_text
 path_reads = alike
     (then_reads length u8_reads
@@ -72,7 +72,7 @@ next_from None [] no_root e = cc
 next_from None (m ∷ ms) no_root e = refl
 next_from (Some low) path no_root e = e
 
-pub next_path_reads : (before : Option Names) → Reads (next_path_at before) (NextPath before) path_text
+pub next_path_reads : (before : Option Names) → IsReader (next_path_at before) (NextPath before) path_text
 unfolding next_path_at
 next_path_reads before =
     let low : Names = unwrap_or before [] in
@@ -91,7 +91,7 @@ flags_tests flags = Decides-or _ _ (Decides-eqb flags 0) (Decides-or _ _ (Decide
 flags_small : (flags : ℕ) → AreFlags flags → flags < 2 ^ 8
 flags_small flags are = grind arith
 
-row_reads : Reads row_at IsRow row_text
+row_reads : IsReader row_at IsRow row_text
 unfolding row_at row_text
 row_reads = alike
     (then_reads (λ row. row.id) u64_reads
@@ -108,7 +108,7 @@ row_reads = alike
 abbrev pub NextRow : Option Row → Row → Type 0
 NextRow = Follows nat_cmp (λ row. row.id) IsRow
 
-pub next_row_reads : (before : Option Row) → Reads (next_row_at before) (NextRow before) row_text
+pub next_row_reads : (before : Option Row) → IsReader (next_row_at before) (NextRow before) row_text
 unfolding next_row_at
 next_row_reads before =
     let low : Option ℕ = option_map (λ x. x.id) before in

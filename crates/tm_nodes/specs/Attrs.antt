@@ -2,6 +2,7 @@
 use Rattle.std.specs.Prelude.{ℕ, ◌^◌, ◌<◌, ◌≤◌, List, ◌++◌, length, All, flat_map}
 use Rattle.std.specs.Map.{keys_of}
 use Rattle.std.specs.List.Sorted.{IsStrictlySortedBy}
+use Rattle.tm_base.specs.Limits.{max_extras, max_value_bytes}
 use Rattle.tm_base.specs.IsName.{IsName}
 use Rattle.tm_base.specs.Paths.{name_cmp}
 use Rattle.tm_base.specs.Days.{last_moment}
@@ -20,7 +21,7 @@ attrs_text a =
 -- a name, and at most 4,096 bytes of value
 pub record IsExtra (extra : List ℕ × List ℕ) : Type 0 where
   pub name : IsName extra.0
-  pub value : length extra.1 ≤ 4096
+  pub value : length extra.1 ≤ max_value_bytes
 
 -- a mode of at most 7777 (octal), a date of at most the year 9999, and at most 16 extra attributes by rising name
 pub record IsAttrs (a : Attrs) : Type 0 where
@@ -28,6 +29,6 @@ pub record IsAttrs (a : Attrs) : Type 0 where
   pub uid : a.uid < 2 ^ 32
   pub gid : a.gid < 2 ^ 32
   pub modified : a.modified ≤ last_moment
-  pub few : length a.extra ≤ 16
+  pub few : length a.extra ≤ max_extras
   pub each : All IsExtra a.extra
   pub rising : IsStrictlySortedBy name_cmp (keys_of a.extra)

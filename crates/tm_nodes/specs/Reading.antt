@@ -4,6 +4,7 @@ use Rattle.std.specs.declared.cmp.Ordering.{Ordering}
 use Rattle.std.specs.Ordering.{nat_cmp, is_lt}
 use Rattle.std.specs.List.{list_all}
 use Rattle.std.specs.Str.{is_utf8}
+use Rattle.tm_base.specs.Limits.{max_extras, max_name_bytes, max_names, max_target_bytes, max_value_bytes}
 use Rattle.tm_base.specs.Paths.{Names, name_cmp, path_cmp}
 use Rattle.tm_base.specs.Days.{last_moment}
 use Rattle.tm_tree.specs.declared.attrs.Attrs.{Attrs}
@@ -76,7 +77,7 @@ long_at = do
 -- `IsName` as a test
 unfoldable pub is_name : List ℕ → Bool
 is_name bytes =
-    nat_le 1 (length bytes) && nat_le (length bytes) 255 && is_utf8 bytes && list_all (λ b. not (b == 47) && not (b == 0)) bytes
+    nat_le 1 (length bytes) && nat_le (length bytes) max_name_bytes && is_utf8 bytes && list_all (λ b. not (b == 47) && not (b == 0)) bytes
     && not (bytes_eq bytes (codes ".")) && not (bytes_eq bytes (codes ".."))
 
 -- a name after its length
@@ -87,7 +88,7 @@ name_at = do
 
 -- `IsTarget` as a test
 unfoldable pub is_target : List ℕ → Bool
-is_target bytes = nat_le 1 (length bytes) && nat_le (length bytes) 1023 && is_utf8 bytes && list_all (λ b. not (b == 0)) bytes
+is_target bytes = nat_le 1 (length bytes) && nat_le (length bytes) max_target_bytes && is_utf8 bytes && list_all (λ b. not (b == 0)) bytes
 
 -- a target after its length
 unfoldable pub target_at : Reader (List ℕ)
@@ -117,7 +118,7 @@ unfoldable pub extra_at : Reader (List ℕ × List ℕ)
 extra_at = do
   name ← name_at
   value ← long_at
-  only_if (nat_le (length value) 4096) (name, value)
+  only_if (nat_le (length value) max_value_bytes) (name, value)
 
 -- one whose name is above that of the one before it
 unfoldable pub next_extra_at : Option (List ℕ × List ℕ) → Reader (List ℕ × List ℕ)
@@ -129,7 +130,7 @@ next_extra_at before = do
 unfoldable pub extras_at : Reader Values
 extras_at = do
   n ← u8_at
-  count ← only_if (nat_le n 16) n
+  count ← only_if (nat_le n max_extras) n
   many next_extra_at count None
 
 -- attributes
@@ -235,7 +236,7 @@ node_at size = do
 unfoldable pub path_at : Reader Names
 path_at = do
   n ← u8_at
-  count ← only_if (nat_le n 64) n
+  count ← only_if (nat_le n max_names) n
   many (λ before. name_at) count None
 
 -- one above the one before it, and never the root

@@ -1,6 +1,7 @@
 -- What a record is, as a function of its bytes: none where they are no record's spelling. The law
 -- `spellings_are_found` says that it finds what the bytes spell, and no more.
 use Rattle.std.specs.Prelude.{ℕ, Option, None, List, length}
+use Rattle.tm_base.specs.Limits.{max_fixed}
 use Rattle.tm_base.specs.Paths.{Names}
 use Rattle.tm_tree.specs.declared.node.NodeRow.{NodeRow}
 use Rattle.tm_tree.specs.declared.record.ItemRow.{ItemRow}
@@ -32,7 +33,7 @@ snapshot_of meta = whole snapshot_at meta
 
 -- the fixed paths that are these bytes
 unfoldable pub paths_of : List ℕ → Option (List Names)
-paths_of bytes = whole (to_end next_path_at 256 None) bytes
+paths_of bytes = whole (to_end next_path_at max_fixed None) bytes
 
 -- the journal rows that are these bytes
 unfoldable pub rows_of : List ℕ → Option (List Row)

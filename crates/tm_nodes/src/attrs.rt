@@ -10,6 +10,7 @@ ghost use Rattle.tm_nodes.specs.Reading.{is_after, last_of, extra_at, next_extra
 use crate::error::ReadError;
 use crate::field::{put_name, take_long, take_name, take_u8, take_u16, take_u32, take_u64};
 use std::alloc::Global;
+use tm_base::limits::{MAX_EXTRAS, MAX_VALUE_BYTES};
 use tm_base::{Moment, Name};
 use tm_codec::{Memory, put_long, put_u8, put_u16, put_u32, put_u64};
 use tm_tree::{Attrs, Extras};
@@ -17,12 +18,6 @@ use tm_world::Bytes;
 
 /// The greatest mode.
 const LAST_MODE: u16 = 0o7777;
-
-/// The most extra attributes of an item.
-const MOST_EXTRAS: u8 = 16;
-
-/// The most bytes of an extra attribute's value.
-const MOST_VALUE: usize = 4096;
 
 /// Adds an extra attribute.
 #[tactic(auto, unfolding(crate::specs::Attrs::extra_text))]
@@ -66,7 +61,7 @@ fn take_extra(alloc: Global, bytes: &[u8]) -> Result<((Name, Bytes), &[u8]), Rea
 {
     let (name, rest) = take_name(alloc, bytes)?;
     let (value, rest) = take_long(rest)?;
-    if value.len() > MOST_VALUE {
+    if value.len() > MAX_VALUE_BYTES {
         return Err(ReadError::Broken);
     }
     Ok(((name, Bytes::of(value.to_vec(alloc)?)), rest))
@@ -120,7 +115,7 @@ fn take_extras(alloc: Global, bytes: &[u8]) -> Result<(Extras, &[u8]), ReadError
     ensures { Gives (λ x. (x.0, x.1.now)) result (extras_at bytes.now) }
 {
     let (count, rest) = take_u8(bytes)?;
-    if count > MOST_EXTRAS {
+    if usize::from(count) > MAX_EXTRAS {
         return Err(ReadError::Broken);
     }
     take_each_extra(alloc, count, rest)

@@ -4,6 +4,7 @@ ghost use Rattle.tm_nodes.specs.Answers.{Tells};
 ghost use Rattle.tm_nodes.specs.Readers.{Gives, value_alone};
 
 use std::alloc::{AllocError, AllocFailed};
+use tm_codec::CodecError;
 
 /// Why a reading call gives no record.
 #[derive(Clone, Copy, Debug, PartialEq, Eq)]
@@ -21,6 +22,17 @@ pub enum ReadError {
     Broken,
     /// Memory was refused.
     Memory,
+}
+
+impl From<CodecError> for ReadError {
+    ghost use Rattle.std.specs.Prelude.{◌≡◌};
+    ghost use Rattle.tm_nodes.specs.declared.error.ReadError.TheVariants.{Broken};
+
+    ghost from_gives = { λ _ error. error ≡ Broken };
+
+    fn from(_error: CodecError) -> ReadError {
+        ReadError::Broken
+    }
 }
 
 impl From<AllocError> for ReadError {

@@ -7,76 +7,60 @@ ghost use Rattle.tm_nodes.specs.Reading.{u8_at, u16_at, u32_at, u64_at, u128_at,
 
 use crate::error::ReadError;
 use std::alloc::Global;
+use tm_base::limits::MAX_TARGET_BYTES;
 use tm_base::{Name, NameError};
 use tm_codec::{
     Memory, get_long, get_short, get_u8, get_u16, get_u32, get_u64, get_u128, put_short,
 };
 use tm_world::Bytes;
 
-/// The most bytes of a link's target.
-const MOST_TARGET: usize = 1023;
-
 pub fn take_u8(bytes: &[u8]) -> Result<(u8, &[u8]), ReadError>
     ensures { Gives (λ x. (x.0, x.1.now)) result (u8_at bytes.now) }
 {
-    match get_u8(bytes, 0) {
-        Ok(number) => Ok((number, bytes.split_at(1).1)),
-        Err(_) => Err(ReadError::Broken),
-    }
+    let number = get_u8(bytes, 0)?;
+    Ok((number, bytes.split_at(1).1))
 }
 
 pub fn take_u16(bytes: &[u8]) -> Result<(u16, &[u8]), ReadError>
     ensures { Gives (λ x. (x.0, x.1.now)) result (u16_at bytes.now) }
 {
-    match get_u16(bytes, 0) {
-        Ok(number) => Ok((number, bytes.split_at(2).1)),
-        Err(_) => Err(ReadError::Broken),
-    }
+    let number = get_u16(bytes, 0)?;
+    Ok((number, bytes.split_at(2).1))
 }
 
 pub fn take_u32(bytes: &[u8]) -> Result<(u32, &[u8]), ReadError>
     ensures { Gives (λ x. (x.0, x.1.now)) result (u32_at bytes.now) }
 {
-    match get_u32(bytes, 0) {
-        Ok(number) => Ok((number, bytes.split_at(4).1)),
-        Err(_) => Err(ReadError::Broken),
-    }
+    let number = get_u32(bytes, 0)?;
+    Ok((number, bytes.split_at(4).1))
 }
 
 pub fn take_u64(bytes: &[u8]) -> Result<(u64, &[u8]), ReadError>
     ensures { Gives (λ x. (x.0, x.1.now)) result (u64_at bytes.now) }
 {
-    match get_u64(bytes, 0) {
-        Ok(number) => Ok((number, bytes.split_at(8).1)),
-        Err(_) => Err(ReadError::Broken),
-    }
+    let number = get_u64(bytes, 0)?;
+    Ok((number, bytes.split_at(8).1))
 }
 
 pub fn take_u128(bytes: &[u8]) -> Result<(u128, &[u8]), ReadError>
     ensures { Gives (λ x. (x.0, x.1.now)) result (u128_at bytes.now) }
 {
-    match get_u128(bytes, 0) {
-        Ok(number) => Ok((number, bytes.split_at(16).1)),
-        Err(_) => Err(ReadError::Broken),
-    }
+    let number = get_u128(bytes, 0)?;
+    Ok((number, bytes.split_at(16).1))
 }
 
 pub fn take_short(bytes: &[u8]) -> Result<(&[u8], &[u8]), ReadError>
     ensures { Gives (λ x. (x.0.now, x.1.now)) result (short_at bytes.now) }
 {
-    match get_short(bytes, 0) {
-        Ok(part) => Ok((part, bytes.split_at(1 + part.len()).1)),
-        Err(_) => Err(ReadError::Broken),
-    }
+    let part = get_short(bytes, 0)?;
+    Ok((part, bytes.split_at(1 + part.len()).1))
 }
 
 pub fn take_long(bytes: &[u8]) -> Result<(&[u8], &[u8]), ReadError>
     ensures { Gives (λ x. (x.0.now, x.1.now)) result (long_at bytes.now) }
 {
-    match get_long(bytes, 0) {
-        Ok(part) => Ok((part, bytes.split_at(2 + part.len()).1)),
-        Err(_) => Err(ReadError::Broken),
-    }
+    let part = get_long(bytes, 0)?;
+    Ok((part, bytes.split_at(2 + part.len()).1))
 }
 
 /// Adds a name after its length.
@@ -104,7 +88,7 @@ fn is_target(bytes: &[u8]) -> bool
     ensures { IsTrue result ↔ IsTarget bytes.now }
 {
     !bytes.is_empty()
-        && bytes.len() <= MOST_TARGET
+        && bytes.len() <= MAX_TARGET_BYTES
         && str::from_utf8(bytes).is_ok()
         && bytes.iter().all(|byte| *byte != 0)
 }

@@ -4,7 +4,7 @@ ghost use Rattle.tm_tree.specs.declared.attrs.Attrs.{Attrs};
 ghost use Rattle.tm_tree.specs.declared.record.ItemRow.{ItemRow};
 ghost use Rattle.tm_nodes.specs.Answers.{IfBad, Tells};
 ghost use Rattle.tm_codec.specs.Fields.{u32_text, short_text};
-ghost use Rattle.tm_codec.specs.Places.{StandsAt};
+ghost use Rattle.tm_codec.specs.Places.{IsTextAt};
 ghost use Rattle.tm_nodes.specs.Items.{item_kind, item_attrs, item_tail, item_name, item_text, IsItemTail, IsItemRow, IsItem};
 ghost use Rattle.tm_nodes.specs.Readers.{Gives};
 ghost use Rattle.tm_nodes.specs.Reading.{item_name_at, item_body_at, item_at};
@@ -146,7 +146,7 @@ pub fn read_item(alloc: Global, key: u64, meta: &[u8], length: u64) -> Result<It
 /// The parent's number in an item's meta, without reading what follows it. It takes no memory.
 pub fn parent_of(meta: &[u8]) -> Option<u64>
     ensures item { (row : ItemRow) → IsItemRow row → meta.now ≡ item_text row → result ≡ Some row.parent }
-    ensures stands { IfSome result (λ parent. StandsAt (u32_text parent) 1 meta.now) }
+    ensures stands { IfSome result (λ parent. IsTextAt (u32_text parent) 1 meta.now) }
 {
     match get_u32(meta, 1) {
         Ok(parent) => Some(parent as u64),

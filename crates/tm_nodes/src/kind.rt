@@ -1,6 +1,6 @@
 //! What an item or a node is.
 ghost use Rattle.std.specs.Prelude.{◌≡◌, ◌++◌, IfSome, IfNone, OnOk};
-ghost use Rattle.tm_codec.specs.Places.{StandsAt};
+ghost use Rattle.tm_codec.specs.Places.{IsTextAt};
 ghost use Rattle.tm_tree.specs.declared.node.NodeRow.{NodeRow};
 ghost use Rattle.tm_tree.specs.declared.record.ItemRow.{ItemRow};
 ghost use Rattle.tm_nodes.specs.Items.{item_kind, item_text};
@@ -63,8 +63,8 @@ pub fn take_kind(bytes: &[u8]) -> Result<(Kind, &[u8]), ReadError>
 /// The kind of the item or node that has this meta, told by its first byte alone; none where
 /// that is no kind. It takes no memory.
 pub fn kind_of(meta: &[u8]) -> Option<Kind>
-    ensures stands { IfSome result (λ kind. StandsAt (kind_text kind) 0 meta.now) }
-    ensures none { IfNone result ((kind : Kind) → StandsAt (kind_text kind) 0 meta.now → ⊥) }
+    ensures stands { IfSome result (λ kind. IsTextAt (kind_text kind) 0 meta.now) }
+    ensures none { IfNone result ((kind : Kind) → IsTextAt (kind_text kind) 0 meta.now → ⊥) }
     ensures item { (row : ItemRow) → meta.now ≡ item_text row → result ≡ Some (item_kind row.body) }
     ensures node { (row : NodeRow) → meta.now ≡ node_text row → result ≡ Some (node_kind row.body) }
 {

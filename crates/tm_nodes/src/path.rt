@@ -1,6 +1,7 @@
 //! Stored paths, and the fixed paths of a volume (`docs/RECORDS.md`, "Paths").
 ghost use Rattle.std.specs.Prelude.{◌≡◌, ◌≢◌, ◌≤◌, ◌++◌, ℕ, List, [], IfOk, OnOk, flat_map, unwrap_or};
 ghost use Rattle.std.specs.Ordering.{is_lt};
+ghost use Rattle.tm_base.specs.Limits.{max_fixed};
 ghost use Rattle.tm_base.specs.Paths.{Names, path_cmp};
 ghost use Rattle.tm_codec.specs.Fields.{short_text};
 ghost use Rattle.tm_nodes.specs.Answers.{IfBad, Tells};
@@ -13,16 +14,11 @@ ghost use Rattle.tm_nodes.specs.Spelled.{IsSpelled, IsUnspelled};
 use crate::error::{NodeError, ReadError, alone};
 use crate::field::{put_name, take_name, take_u8};
 use std::alloc::Global;
+use tm_base::limits::{MAX_FIXED, MAX_NAMES};
 use tm_base::{Name, Path};
 use tm_codec::{Memory, put_u8};
 use tm_tree::PathList;
 use tm_world::Bytes;
-
-/// The most names of a path.
-const MOST_NAMES: u8 = 64;
-
-/// The most fixed paths of a volume.
-const MOST_PATHS: usize = 256;
 
 fn put_each_name(out: &mut Vec<u8>, names: &[Name]) -> Result<(), Memory>
     ensures { OnOk result (out.new.items ≡ out.old.items ++ flat_map short_text names.now) }
@@ -64,7 +60,7 @@ pub fn take_path(alloc: Global, bytes: &[u8]) -> Result<(Path, &[u8]), ReadError
     ensures { Gives (λ x. (x.0, x.1.now)) result (path_at bytes.now) }
 {
     let (count, rest) = take_u8(bytes)?;
-    if count > MOST_NAMES {
+    if usize::from(count) > MAX_NAMES {
         return Err(ReadError::Broken);
     }
     take_each_name(alloc, count, rest)
@@ -111,12 +107,12 @@ fn take_next_path<'a>(
 
 /// At most 256 paths, by rising path, up to the end of the bytes.
 fn take_paths(alloc: Global, bytes: &[u8]) -> Result<(PathList, &[u8]), ReadError>
-    ensures { Gives (λ x. (x.0, x.1.now)) result (to_end next_path_at 256 None bytes.now) }
+    ensures { Gives (λ x. (x.0, x.1.now)) result (to_end next_path_at max_fixed None bytes.now) }
 {
     let mut paths = Vec::new(alloc);
     let mut rest = bytes;
     while !rest.is_empty() {
-        if paths.len() >= MOST_PATHS {
+        if paths.len() >= MAX_FIXED {
             return Err(ReadError::Broken);
         }
         let (path, after) = take_next_path(alloc, &paths, rest)?;

@@ -1,4 +1,2 @@
-pub mod WalkSteps
 pub mod ItemLemmas
-pub mod LastLemmas
 pub mod RunLemmas

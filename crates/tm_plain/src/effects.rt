@@ -1,7 +1,7 @@
 // What each family of changes does to a tree. Where memory is refused, the tree stays as it was.
 ghost use Rattle.std.specs.Prelude.{◌≡◌, ◌++◌, [], false, IfOk, OnOk, OnErr};
 ghost use Rattle.std.specs.Option.{option_map_or};
-ghost use Rattle.tm_tree.specs.Changes.{place_at, write_at, remove_at, move_to, attrs_changed, fill_byte, fill_bytes, is_too_deep};
+ghost use Rattle.tm_tree.specs.Changes.{place_at, write_at, remove_at, move_to, attrs_changed, is_too_deep};
 ghost use Rattle.tm_tree.specs.Extras.{with_extra, without_extra};
 ghost use Rattle.tm_tree.specs.Items.{bytes_of};
 ghost use Rattle.tm_tree.specs.Trees.{item_at};
@@ -168,23 +168,4 @@ impl Tree {
         all.extend_from_slice(bytes.as_slice())?;
         Ok(Bytes::of(all))
     }
-}
-
-// Byte `i` of what `fill` writes.
-fn fill_byte(seed: u64, i: u64) -> u8
-    ensures { result ≡ fill_byte seed i }
-{
-    let (seed, i) = (u128::from(seed), u128::from(i));
-    ((seed + 7 * i + i / 256) % 256) as u8
-}
-
-// What `fill` writes.
-pub(crate) fn fill_bytes(alloc: Global, count: u64, seed: u64) -> Result<Bytes, AllocError>
-    ensures { IfOk result (λ bytes. bytes ≡ fill_bytes count seed) }
-{
-    let mut bytes = Vec::new(alloc);
-    for i in 0..count {
-        bytes.push(fill_byte(seed, i))?;
-    }
-    Ok(Bytes::of(bytes))
 }

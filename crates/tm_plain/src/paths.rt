@@ -1,5 +1,6 @@
 // The folder that holds an item, and paths of what is moved.
 ghost use Rattle.std.specs.Prelude.{◌≡◌, ◌≤◌, ◌+◌, ◌-◌, true, false, length, IfOk, MatchOption};
+ghost use Rattle.tm_base.specs.Limits.{max_names};
 ghost use Rattle.tm_base.specs.Paths.{is_prefix, parent_of};
 ghost use Rattle.tm_tree.specs.Trees.{is_child, last_of, rekey};
 
@@ -35,7 +36,7 @@ pub(crate) fn is_child(folder: &Path, path: &Path) -> bool
 
 // The path, where what stands at `from` and beneath is moved to `to`.
 pub(crate) fn rekeyed(path: &Path, from: &Path, to: &Path) -> Result<Path, AllocError>
-    requires { is_prefix from.now path.now ≡ true → length to.now + (length path.now - length from.now) ≤ 64 }
+    requires { is_prefix from.now path.now ≡ true → length to.now + (length path.now - length from.now) ≤ max_names }
     ensures { IfOk result (λ moved. moved ≡ rekey from.now to.now path.now) }
 {
     if !from.is_prefix_of(path) {

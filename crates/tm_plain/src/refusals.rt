@@ -10,20 +10,9 @@ use crate::paths::parent;
 use crate::tree::Tree;
 use std::alloc::AllocError;
 use std::collections::BTreeSet;
+use tm_base::limits::{MAX_EXTRAS, MAX_FILE_BYTES, MAX_FIXED, MAX_ITEMS};
 use tm_base::{Moment, Name, Path, Refused};
 use tm_tree::{Item, Way, is_exclusion};
-
-/// Items of a volume, the root counted.
-const MOST_ITEMS: u128 = 65_536;
-
-/// Bytes of a file.
-const MOST_BYTES: u64 = 16_777_216;
-
-/// Extras of an item.
-const MOST_EXTRAS: u128 = 16;
-
-/// Fixed paths of a volume.
-const MOST_FIXED: u128 = 256;
 
 fn too_many(limit: u128, count: u128) -> Option<Refused>
     ensures { result ≡ first_refused (too_many limit count) }
@@ -63,7 +52,7 @@ impl Tree {
         } else if into != Way::AtFolder {
             Some(Refused::NotFolder)
         } else {
-            too_many(MOST_ITEMS, self.len() as u128 + 1).or(needs_moment(moment))
+            too_many(MAX_ITEMS as u128, self.len() as u128 + 1).or(needs_moment(moment))
         })
     }
 
@@ -100,10 +89,10 @@ impl Tree {
             ∷ too_many most_items (if is_at_file there then length self.now else length self.now + 1)) }
     {
         let made = if there == Way::AtFile { 0 } else { 1 };
-        if size > MOST_BYTES {
+        if size > MAX_FILE_BYTES {
             Some(Refused::TooLong { length: size })
         } else {
-            too_many(MOST_ITEMS, self.len() as u128 + made)
+            too_many(MAX_ITEMS as u128, self.len() as u128 + made)
         }
     }
 
@@ -196,7 +185,7 @@ impl Tree {
         Ok(match self.way(path)? {
             Way::Nowhere => Some(Refused::NotFound),
             Way::Blocked => Some(Refused::NotFolder),
-            _ => too_many(MOST_EXTRAS, self.extras_with(path, name)).or(if path.is_root()
+            _ => too_many(MAX_EXTRAS as u128, self.extras_with(path, name)).or(if path.is_root()
                 && is_exclusion(name)
             {
                 Some(Refused::RootItem)
@@ -268,7 +257,7 @@ pub(crate) fn refuses_fix(fixed: &BTreeSet<Path>, path: &Path) -> Option<Refused
     ensures { result ≡ first_refused (fix_tests fixed.now.keys path.now) }
 {
     let count = fixed.len() as u128 + if fixed.contains(path) { 0 } else { 1 };
-    too_many(MOST_FIXED, count).or(if path.is_root() {
+    too_many(MAX_FIXED as u128, count).or(if path.is_root() {
         Some(Refused::RootItem)
     } else {
         None

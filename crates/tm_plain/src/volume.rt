@@ -10,7 +10,6 @@ ghost use Rattle.tm_tree.specs.Touches.{numbers, touches};
 ghost use Rattle.tm_tree.specs.Views.{view};
 ghost use Rattle.tm_tree.specs.Walks.{walk, Finds};
 
-use crate::effects::fill_bytes;
 use crate::items::Entry;
 use crate::refusals::{refuses_fix, refuses_unfix};
 use crate::tree::Tree;
@@ -18,7 +17,7 @@ use std::alloc::{AllocError, Global};
 use std::collections::BTreeSet;
 use std::marker::Model;
 use tm_base::{LineFault, Moment, Name, Path, Refused};
-use tm_tree::{Change, Item, Listing, Touches};
+use tm_tree::{Change, Item, Listing, Touches, fill_bytes};
 
 /// Past this number none is drawn.
 const LAST_NUMBER: u128 = 1 << 62;

@@ -5,16 +5,14 @@ use Rattle.std.specs.Cmp.{unsigned_Decides}
 use Rattle.std.specs.Cmp.Lexicographic.{pointwise, pointwise_decides}
 use Rattle.std.proofs.lemmas.Bool.Decides.{nat_tests}
 use Rattle.tm_run.specs.Command.{texts, IsCreateOption, IsEnd, IsCommand, IsSomeCommand}
+use Rattle.tm_base.proofs.Facts.{true_false}
 
 abbrev Words : Type 0
 Words = List (List ℕ)
 
-clash : {P : Type 0} → true ≡ false → P
-clash e = cc
-
 -- two words that are found to differ
 pub words_differ : (v s : List ℕ) → pointwise nat_eq v s ≡ false → v ≢ s
-words_differ v s apart same = clash (sym ((pointwise_decides unsigned_Decides v s).1 same) ∙ apart)
+words_differ v s apart same = true_false (sym ((pointwise_decides unsigned_Decides v s).1 same) ∙ apart)
 
 -- no word is left
 pub none_left : (words : List (String Global)) → eqb (length words) 0 ≡ true → texts words ≡ []

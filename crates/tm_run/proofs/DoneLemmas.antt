@@ -10,7 +10,7 @@ use Rattle.tm_reply.specs.Replies.{reply_text}
 use Rattle.tm_volume.specs.Seen.{stored_on}
 use Rattle.tm_volume.specs.Stored.{StoredVolume}
 use Rattle.tm_store_records.specs.States.{StoredStore}
-use Rattle.tm_store_records.specs.Held.{stored_on as store_stored_on}
+use Rattle.tm_store_records.specs.Held.{store_stored_on}
 use Rattle.tm_text.specs.declared.line.Line.{Line}
 use Rattle.tm_tree.specs.Refusing.{first_refused}
 use Rattle.tm_world.specs.Disk.{Disk, IsLeft}
@@ -247,7 +247,7 @@ module _ (laws : EffectLaws) where
 
   module _ (start : Log) (s0 : State) (lines : List Line) where
     -- the whole run, where the lines that are left do t
-    pub record IsWhole (log : Log) (s : State) (refused : Bool) (t : List Effect) : Type 0 where
+    pub record RunWith (log : Log) (s : State) (refused : Bool) (t : List Effect) : Type 0 where
       pub done : List Effect
       pub may : AreDone s0 lines done
       pub passes : Passes start log (LeavesDone (kept s0) done (now start))
@@ -258,14 +258,14 @@ module _ (laws : EffectLaws) where
 
     -- at the head of the loop: whatever the lines that are left do
     abbrev pub SoFar : Log → State → Bool → List Line → Type 0
-    SoFar log s refused rest = (t : List Effect) → AreDone s rest t → IsWhole log s refused t
+    SoFar log s refused rest = (t : List Effect) → AreDone s rest t → RunWith log s refused t
 
     pub begins : SoFar start s0 false lines
     begins t may = record { done = t; may = may; passes = Passes-none start _; forward = λ o leaves. leaves; said = refl; state = refl; refuses = refl }
 
     module _ (mid new : Log) (s : State) (refused : Bool) (l : Line) (rest : List Line) (so_far : SoFar mid s refused (l ∷ rest)) (d : Effect) (may : MayDo s l d)
         (passes : Passes mid new (LeavesEffect s d (now mid))) where
-      whole : (t : List Effect) → AreDone (after_of d) rest t → IsWhole mid s refused (d ∷ t)
+      whole : (t : List Effect) → AreDone (after_of d) rest t → RunWith mid s refused (d ∷ t)
       whole t rest_may = so_far (d ∷ t) (may, rest_may)
 
       so : (t : List Effect) (rest_may : AreDone (after_of d) rest t) → Passes start new (LeavesDone (kept s0) (whole t rest_may).done (now start))

@@ -1,7 +1,8 @@
 -- Lines over a pair of images.
 use Rattle.std.proofs.Common.{◌≡◌, ◌≤◌, ◌⊎◌, inl, inr, ℕ, List, [], ◌++◌, take, Option, Some, None, arith, refl, sym, ap, ◌∙◌, subst}
-use Rattle.tm_base.specs.declared.refused.Side.{Side as Named}
+use Rattle.tm_base.specs.declared.refused.Side.{Side as RefusedSide}
 use Rattle.tm_base.specs.declared.refused.Side.TheVariants.{Volume as OfVolume, Store as OfStore}
+use Rattle.tm_base.specs.Limits.{max_blocks}
 use Rattle.tm_machine.specs.Runs.{any_refused, said_of}
 use Rattle.tm_machine.specs.States.{State, Stored, kept, opened}
 use Rattle.tm_machine.specs.Stops.{CanOpen, CanOpenStore, IsBadSide, IsFramed, IsOpening, KeepsBlank, LeavesBegun, LeavesCommits, LeavesPair, PairReads, ReadsNow}
@@ -15,7 +16,7 @@ use Rattle.tm_world.specs.declared.cause.Cause.{Cause}
 use Rattle.tm_world.specs.declared.world.Side.TheVariants.{Volume as VolumeSide, Store as StoreSide}
 use Rattle.tm_run.specs.declared.status.Status.{Status}
 use Rattle.tm_run.specs.declared.status.Status.TheVariants as status
-use Rattle.tm_run.specs.Ends.{GaveRan, IsWhole, SaysAll, SaysPrefix, Speaks}
+use Rattle.tm_run.specs.Ends.{GaveRan, NotCutShort, SaysAll, SaysPrefix, Speaks}
 use Rattle.tm_run.specs.Outcomes.{FitsPair, Ran, bad_volume, bad_store, replies, done_status, bad_image_line}
 use Rattle.tm_run.specs.Pairs.{IsPair}
 use Rattle.tm_volume.specs.Answers.{IsSpent}
@@ -33,7 +34,7 @@ use Rattle.tm_machine.proofs.OpeningLemmas.{stable_image}
 use Rattle.tm_run.specs.Done.{EndsDone, LeavesDone, SaidLines}
 use Rattle.tm_run.specs.Ends.{IsCut}
 use Rattle.tm_run.specs.Moments.{BesideShut, EndsOnSides, KeepsDisks, OnSides, RanOnSides, opens, runs_on}
-use Rattle.tm_run.specs.Readings.{IsOneOf}
+use Rattle.tm_run.specs.Readings.{EndsAsOrCut}
 use Rattle.tm_run.proofs.DoneLemmas.{commits_now, framed_same, framed_then, speaks_framed}
 use Rattle.tm_run.proofs.PathLemmas.{history_ends, opening_no_store, opening_no_volume}
 use Rattle.tm_run.proofs.OutcomeLemmas.{SideLaws, opens_whole, one_ran, reads_whole}
@@ -55,10 +56,10 @@ of_store P v z now pair h = subst P pair.store_is h
 pub record Counts (v z : Image) (n k : ℕ) : Type 0 where
   pub volume_count : v.count ≡ n
   pub store_count : z.count ≡ k
-  pub volume_few : v.count ≤ 262144
-  pub store_few : z.count ≤ 262144
+  pub volume_few : v.count ≤ max_blocks
+  pub store_few : z.count ≤ max_blocks
 
-pub counts_of : (v z : Image) (now : Outside) (n k : ℕ) → IsPair v z now → (disk VolumeSide now).count ≡ n → n ≤ 262144 → (disk StoreSide now).count ≡ k → k ≤ 262144 → Counts v z n k
+pub counts_of : (v z : Image) (now : Outside) (n k : ℕ) → IsPair v z now → (disk VolumeSide now).count ≡ n → n ≤ max_blocks → (disk StoreSide now).count ≡ k → k ≤ max_blocks → Counts v z n k
 counts_of v z now n k pair counts small store_counts store_small =
     let many : v.count ≡ n = sym (ap (λ (u : Image). u.count) pair.volume_is) ∙ counts in
     let more : z.count ≡ k = sym (ap (λ (u : Image). u.count) pair.store_is) ∙ store_counts in
@@ -100,11 +101,11 @@ prefix_replies laws v z n k lines old mid new s counts can also is same says end
 -- ---- an image is bad
 
 -- that side fails this check
-abbrev pub IsBad : Image → Image → Named → Cause → ℕ → Type 0
+abbrev pub IsBad : Image → Image → RefusedSide → Cause → ℕ → Type 0
 IsBad v z OfVolume c place = (3 ≤ v.count) × FailsVolume v c place
 IsBad v z OfStore c place = (3 ≤ z.count) × CanOpen v × StoreFails z c place
 
-pub is_bad : (v z : Image) (now : Outside) (n k : ℕ) (told : Type 0) (side : Named) (c : Cause) (place : ℕ) → IsPair v z now → Counts v z n k → IsBadSide side c place n k told now → told → IsBad v z side c place
+pub is_bad : (v z : Image) (now : Outside) (n k : ℕ) (told : Type 0) (side : RefusedSide) (c : Cause) (place : ℕ) → IsPair v z now → Counts v z n k → IsBadSide side c place n k told now → told → IsBad v z side c place
 is_bad v z now n k told OfVolume c place pair counts bad t =
     (subst (λ (j : ℕ). 3 ≤ j) (sym counts.volume_count) bad.0, of_volume (λ (u : Image). FailsVolume u c place) v z now pair (bad.1 t))
 is_bad v z now n k told OfStore c place pair counts bad t = (
@@ -113,11 +114,11 @@ is_bad v z now n k told OfStore c place pair counts bad t = (
   of_store (λ (u : Image). StoreFails u c place) v z now pair (bad.1 t).1,
 )
 
-ran_bad : (v z : Image) (lines : List Line) (side : Named) (c : Cause) (place : ℕ) → IsBad v z side c place → Ran v z lines (status.BadImage side c place) (bad_image_line side c place)
+ran_bad : (v z : Image) (lines : List Line) (side : RefusedSide) (c : Cause) (place : ℕ) → IsBad v z side c place → Ran v z lines (status.BadImage side c place) (bad_image_line side c place)
 ran_bad v z lines OfVolume c place bad = bad_volume bad.0 bad.1
 ran_bad v z lines OfStore c place bad = bad_store bad.1 bad.0 bad.2
 
-pub gave_bad : (v z : Image) (lines : List Line) (old mid new : Outside) (side : Named) (c : Cause) (place : ℕ) (ended : Status) → IsBad v z side c place
+pub gave_bad : (v z : Image) (lines : List Line) (old mid new : Outside) (side : RefusedSide) (c : Cause) (place : ℕ) (ended : Status) → IsBad v z side c place
     → mid.said ≡ old.said → ended ≡ status.BadImage side c place → SaysAll (bad_image_line side c place) mid new → GaveRan v z lines old new ended
 gave_bad v z lines old mid new side c place ended bad same end says = record {
   text = bad_image_line side c place;
@@ -125,7 +126,7 @@ gave_bad v z lines old mid new side c place ended bad same end says = record {
   said = all_after (bad_image_line side c place) old mid new same says;
 }
 
-pub prefix_bad : SideLaws → (v z : Image) (n k : ℕ) (lines : List Line) (old mid new : Outside) (side : Named) (c : Cause) (place : ℕ) → Counts v z n k → IsBad v z side c place
+pub prefix_bad : SideLaws → (v z : Image) (n k : ℕ) (lines : List Line) (old mid new : Outside) (side : RefusedSide) (c : Cause) (place : ℕ) → Counts v z n k → IsBad v z side c place
     → mid.said ≡ old.said → SaysPrefix (bad_image_line side c place) mid new
     → (ended : Status) (text : List ℕ) → Ran v z lines ended text → SaysPrefix text old new
 prefix_bad laws v z n k lines old mid new side c place counts bad same says ended text ran =
@@ -212,7 +213,7 @@ module _ (plain : PlainWhereFits) (v z : Image) (lines : List Line) (s : State) 
       let r : Stored = record { volume = can.volume; store = also.store } in
       subst PairFits (sym (is r (reads_of v z can also))) (fits r (reads_of v z can also) v.count z.count)
 
-  pub plain_ends : (mid new : Log) (ended : Status) → SaidLines s lines mid new (λ done. EndsDone ended s done (now mid) (now new)) → IsWhole ended
+  pub plain_ends : (mid new : Log) (ended : Status) → SaidLines s lines mid new (λ done. EndsDone ended s done (now mid) (now new)) → NotCutShort ended
       → (ended ≡ done_status (any_refused s lines)) × SaysAll (said_of s lines) (now mid) (now new)
   plain_ends mid new ended does whole =
       let end = does.answers whole in
@@ -230,7 +231,7 @@ module _ (plain : PlainWhereFits) (v z : Image) (lines : List Line) (s : State) 
 -- ---- an image that can't be opened
 
 -- a pair that reads as something whose generations aren't spent isn't bad
-pub not_bad : SideLaws → (v z : Image) (n k : ℕ) (side : Named) (c : Cause) (place : ℕ) (r : Stored) → Counts v z n k → IsBad v z side c place → PairReads r v z → ¬ IsSpent r.volume → ⊥
+pub not_bad : SideLaws → (v z : Image) (n k : ℕ) (side : RefusedSide) (c : Cause) (place : ℕ) (r : Stored) → Counts v z n k → IsBad v z side c place → PairReads r v z → ¬ IsSpent r.volume → ⊥
 not_bad laws v z n k OfVolume c place r counts bad reads unspent = reads_whole laws v z r c place bad.0 counts.volume_few reads unspent bad.1
 not_bad laws v z n k OfStore c place r counts bad reads unspent = laws.store_whole z r.store c place bad.0 counts.store_few reads.store_reads bad.2
 
@@ -297,7 +298,7 @@ module _ (r : Option StoredVolume) (old mid : Log) (synced : IsSynced (now old))
       }) says)
 
 -- a status of the line on a bad image
-pub cut_is_memory : {P : Type 0} (wanted ended : Status) → ¬ IsCut wanted → IsOneOf wanted ended → (ended ≡ status.Memory → P) → IsCut ended → P
+pub cut_is_memory : {P : Type 0} (wanted ended : Status) → ¬ IsCut wanted → EndsAsOrCut wanted ended → (ended ≡ status.Memory → P) → IsCut ended → P
 cut_is_memory wanted ended never (inl is) memory cut = absurd (never (subst IsCut is cut))
 cut_is_memory wanted ended never (inr (inl is)) memory cut = memory is
 cut_is_memory wanted ended never (inr (inr is)) memory cut = absurd (subst IsCut is cut)

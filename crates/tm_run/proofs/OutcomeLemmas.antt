@@ -5,10 +5,11 @@ use Rattle.tm_text.specs.declared.line.Line.{Line}
 use Rattle.tm_text.specs.Script.{IsScript, IsFirstBad}
 use Rattle.tm_text.specs.ScriptLaws.{OneMeaning, BadIsOutside, OneFirstBadLine}
 use Rattle.tm_base.specs.declared.refused.Side.TheVariants.{Volume as OfVolume, Store as OfStore}
+use Rattle.tm_base.specs.Limits.{max_blocks}
 use Rattle.tm_machine.specs.States.{Stored, opened}
 use Rattle.tm_machine.specs.Runs.{said_of, any_refused}
 use Rattle.tm_machine.specs.Stops.{CanOpen, PairReads}
-use Rattle.tm_store.specs.Sides.{OneSide as OneStoreSide, OneStoreFailure, ReadsOrFails}
+use Rattle.tm_store.specs.Sides.{OneStoreSide, OneStoreFailure, StoreReadsOrFails}
 use Rattle.tm_volume.specs.Answers.{FailsVolume, IsSpent, OneVolumeFailure, ReadsOrFailsVolume}
 use Rattle.tm_volume.specs.Reads.{OneSide}
 use Rattle.tm_world.specs.Disk.{Image}
@@ -45,23 +46,23 @@ pub record SideLaws : Type 0 where
   pub volume_whole : ReadsOrFailsVolume
   pub store_is_one : OneStoreSide
   pub store_fails : OneStoreFailure
-  pub store_whole : ReadsOrFails
+  pub store_whole : StoreReadsOrFails
 
 -- a volume that can be opened fails no check
-pub opens_whole : SideLaws → (v : Image) (c : Cause) (place : ℕ) → 3 ≤ v.count → v.count ≤ 262144 → CanOpen v → FailsVolume v c place → ⊥
+pub opens_whole : SideLaws → (v : Image) (c : Cause) (place : ℕ) → 3 ≤ v.count → v.count ≤ max_blocks → CanOpen v → FailsVolume v c place → ⊥
 opens_whole laws v c place many few can fails = can.unspent (laws.volume_whole v can.volume c place many few can.reads fails).1
 
 -- and one that is read as something that isn't spent
-pub reads_whole : SideLaws → (v z : Image) (r : Stored) (c : Cause) (place : ℕ) → 3 ≤ v.count → v.count ≤ 262144 → PairReads r v z → ¬ IsSpent r.volume → FailsVolume v c place → ⊥
+pub reads_whole : SideLaws → (v z : Image) (r : Stored) (c : Cause) (place : ℕ) → 3 ≤ v.count → v.count ≤ max_blocks → PairReads r v z → ¬ IsSpent r.volume → FailsVolume v c place → ⊥
 reads_whole laws v z r c place many few reads unspent fails = unspent (laws.volume_whole v r.volume c place many few reads.volume_reads fails).1
 
 -- a pair is read as one
-pub one_pair : SideLaws → (v z : Image) (r q : Stored) → v.count ≤ 262144 → z.count ≤ 262144 → PairReads r v z → PairReads q v z → r ≡ q
+pub one_pair : SideLaws → (v z : Image) (r q : Stored) → v.count ≤ max_blocks → z.count ≤ max_blocks → PairReads r v z → PairReads q v z → r ≡ q
 one_pair laws v z r q few small reads also =
     same_stored r q (laws.volume_is_one v r.volume q.volume few reads.volume_reads also.volume_reads) (laws.store_is_one z r.store q.store small reads.store_reads also.store_reads)
 
 module _ (laws : SideLaws) where
-  pub one_ran : (v z : Image) (lines : List Line) (a b : Status) (x y : List ℕ) → v.count ≤ 262144 → z.count ≤ 262144 → Ran v z lines a x → Ran v z lines b y → (a ≡ b) × (x ≡ y)
+  pub one_ran : (v z : Image) (lines : List Line) (a b : Status) (x y : List ℕ) → v.count ≤ max_blocks → z.count ≤ max_blocks → Ran v z lines a x → Ran v z lines b y → (a ≡ b) × (x ≡ y)
   one_ran v z lines a b x y few small (bad_volume {c} {place} many f) (bad_volume {c = d} {place = other} more g) =
       let same = laws.volume_fails v d c other place few g f in
       (ap (λ (k : Cause). status.BadImage OfVolume k place) same.0 ∙ ap (status.BadImage OfVolume d) same.1, ap (λ (k : Cause). bad_image_line OfVolume k place) same.0 ∙ ap (bad_image_line OfVolume d) same.1)
@@ -113,8 +114,8 @@ module _ (one_meaning : OneMeaning) (bad_is_outside : BadIsOutside) (one_first_b
   module _ (laws : SideLaws) (small : AreSmall outside) where
     started : {lines : List Line} {v z : Image} (a b : Status) (x y : List ℕ) → IsStart words outside lines v z → Ran v z lines a x → Outcome words outside b y → (a ≡ b) × (x ≡ y)
     started {lines} {v} {z} a b x y start ran other =
-        let few : v.count ≤ 262144 = subst (λ (u : Image). u.count ≤ 262144) (sym start.volume_is) (image_small words start.volume start.store start.path start.create outside small start.command) in
-        let low : z.count ≤ 262144 = subst (λ (u : Image). u.count ≤ 262144) (sym start.store_is) (store_small words start.volume start.store start.path start.create outside small start.command) in
+        let few : v.count ≤ max_blocks = subst (λ (u : Image). u.count ≤ max_blocks) (sym start.volume_is) (image_small words start.volume start.store start.path start.create outside small start.command) in
+        let low : z.count ≤ max_blocks = subst (λ (u : Image). u.count ≤ max_blocks) (sym start.store_is) (store_small words start.volume start.store start.path start.create outside small start.command) in
         one_ran laws v z lines a b x y few low ran (starts_run lines v z b y start other)
 
     pub one_outcome : (a b : Status) (x y : List ℕ) → Outcome words outside a x → Outcome words outside b y → (a ≡ b) × (x ≡ y)

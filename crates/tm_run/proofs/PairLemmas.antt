@@ -1,5 +1,5 @@
 -- What stands at the two sides after both are attached and synced.
-use Rattle.std.proofs.Common.{◌≡◌, ◌≢◌, ℕ, ◌≤◌, true, false, if◌then◌else◌, List, Option, Some, None, refl, sym, ap, ◌∙◌, subst, arith}
+use Rattle.std.proofs.Common.{if◌then◌else◌, ◌≡◌, ◌≢◌, ℕ, ◌≤◌, true, false, List, Option, Some, None, refl, sym, ap, ◌∙◌, subst, arith}
 use Rattle.std.proofs.lemmas.Bool.{cond-true, cond-false, false_from_ne_true}
 use Rattle.std.proofs.lemmas.Slice.Eq.{bytes_eq-Decides}
 use Rattle.tm_machine.specs.Session.{IsSynced}
@@ -12,6 +12,7 @@ use Rattle.tm_world.proofs.Disks.{loose_synced}
 use Rattle.tm_world.proofs.Sides.{is_place-same, is_place-sym, disk-put_disk, disk_other-put_volume, disk_other-put_store, AreApart-put_disk}
 use Rattle.tm_run.specs.Command.{IsCommand, IsEnd}
 use Rattle.tm_run.specs.Pairs.{AreSmall, IsPair, found}
+use Rattle.tm_base.specs.Limits.{max_blocks}
 
 -- ---- attaching
 
@@ -114,15 +115,15 @@ said_put s d = (refl, refl)
 
 -- ---- the images of a command
 
-found_small : (p : List ℕ) (create : Option ℕ) (s : Outside) → AreSmall s → (made create).count ≤ 262144 → (found p create s).count ≤ 262144
-found_small p create s small few = elim ((s.stands (Some p)).there) as (λ b. (if b then s.stands (Some p) else made create).count ≤ 262144) [ true ↦ small (Some p) | false ↦ few ]
+found_small : (p : List ℕ) (create : Option ℕ) (s : Outside) → AreSmall s → (made create).count ≤ max_blocks → (found p create s).count ≤ max_blocks
+found_small p create s small few = elim ((s.stands (Some p)).there) as (λ b. (if b then s.stands (Some p) else made create).count ≤ max_blocks) [ true ↦ small (Some p) | false ↦ few ]
 
-made_small : (rest : List (List ℕ)) (create : Option ℕ) → IsEnd rest create → (made create).count ≤ 262144
+made_small : (rest : List (List ℕ)) (create : Option ℕ) → IsEnd rest create → (made create).count ≤ max_blocks
 made_small rest None h = omega arith
 made_small rest (Some blocks) h = omega (arith, h.is.most)
 
-pub image_small : (words : List (List ℕ)) (v z p : List ℕ) (create : Option ℕ) (s : Outside) → AreSmall s → IsCommand words v z p create → (found v create s).count ≤ 262144
+pub image_small : (words : List (List ℕ)) (v z p : List ℕ) (create : Option ℕ) (s : Outside) → AreSmall s → IsCommand words v z p create → (found v create s).count ≤ max_blocks
 image_small words v z p create s small command = found_small v create s small (made_small command.rest create command.end)
 
-pub store_small : (words : List (List ℕ)) (v z p : List ℕ) (create : Option ℕ) (s : Outside) → AreSmall s → IsCommand words v z p create → (found z create s).count ≤ 262144
+pub store_small : (words : List (List ℕ)) (v z p : List ℕ) (create : Option ℕ) (s : Outside) → AreSmall s → IsCommand words v z p create → (found z create s).count ≤ max_blocks
 store_small words v z p create s small command = found_small z create s small (made_small command.rest create command.end)

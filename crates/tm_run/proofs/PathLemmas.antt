@@ -23,7 +23,7 @@ use Rattle.tm_machine.specs.States.{State, Stored, kept, opened}
 use Rattle.tm_machine.specs.Stops.{HaveNoStore, HaveNoVolume, IsFramed, LeavesCommits, PairReads}
 use Rattle.tm_run.specs.Done.{LeavesDone}
 use Rattle.tm_run.specs.Claims.{BeginsAtMost, KeepsBoth, KeepsStore, as_found, begins}
-use Rattle.tm_run.specs.Ends.{IsWhole}
+use Rattle.tm_run.specs.Ends.{NotCutShort}
 use Rattle.tm_run.specs.Moments.{BesideShut, EndsOnSides, IsAttached, IsFinding, IsHeld, IsMoment, KeepsDisks, KeepsUnformatted, OnSides, RanOnSides, RanOver, Stage, going_on, opens, runs_on, untouched}
 use Rattle.tm_run.specs.declared.status.Status.{Status}
 use Rattle.tm_run.proofs.DoneLemmas.{framed_same}
@@ -247,7 +247,7 @@ module _ (p q : List ℕ) (create : Option ℕ) (old mid new : Log) (finding : P
 -- ---- a run that came no further than finding the pair
 
 module _ (p q : List ℕ) (create : Option ℕ) (old new : Log) (finding : Passes old new (IsFinding p q create (now old))) where
-  pub ran_none : PlainIsHistory → (lines : List Line) (vb zb : ℕ) (r : Stored) (ended : Status) → ¬ IsWhole ended → RanOver lines p q create vb zb r old new ended
+  pub ran_none : PlainIsHistory → (lines : List Line) (vb zb : ℕ) (r : Stored) (ended : Status) → ¬ NotCutShort ended → RanOver lines p q create vb zb r old new ended
   ran_none plain lines vb zb r ended cut =
       let h = plain_history vb zb lines r in
       record {

@@ -15,7 +15,7 @@ use Rattle.tm_machine.specs.States.{Stored}
 use Rattle.tm_machine.specs.Stops.{PairReads}
 use Rattle.tm_run.specs.declared.status.Status.{Status}
 use Rattle.tm_run.specs.declared.status.Status.TheVariants as status
-use Rattle.tm_run.specs.Ends.{IsWhole}
+use Rattle.tm_run.specs.Ends.{NotCutShort}
 use Rattle.tm_run.specs.Moments.{IsUnderWay, IsUntouched, IsWholeRun, RanOver, Stage, going_on, untouched}
 use Rattle.tm_run.specs.Outcomes.{IsStart}
 use Rattle.tm_run.specs.Pairs.{image_at}
@@ -54,13 +54,13 @@ none_within h = record {
 }
 
 -- a run was not cut short and came to its last moment, or not
-whole_by : (ended : Status) (a b : ℕ) → IsWhole ended → a ≤ b → (IsWhole ended × (a ≡ b)) ⊎ (IsWhole ended → a ≡ b → ⊥)
+whole_by : (ended : Status) (a b : ℕ) → NotCutShort ended → a ≤ b → (NotCutShort ended × (a ≡ b)) ⊎ (NotCutShort ended → a ≡ b → ⊥)
 whole_by ended a b whole le = ⊎_elim
     (λ (less : a < b). inr (λ w same. absurd (omega (arith, less, same))))
     (λ (more : b ≤ a). inl (whole, omega (arith, le, more)))
     (cases_lt a b)
 
-whole_or_not : (ended : Status) (a b : ℕ) → a ≤ b → (IsWhole ended × (a ≡ b)) ⊎ (IsWhole ended → a ≡ b → ⊥)
+whole_or_not : (ended : Status) (a b : ℕ) → a ≤ b → (NotCutShort ended × (a ≡ b)) ⊎ (NotCutShort ended → a ≡ b → ⊥)
 whole_or_not status.Done a b le = whole_by status.Done a b tt le
 whole_or_not status.DoneRefused a b le = whole_by status.DoneRefused a b tt le
 whole_or_not status.Usage a b le = whole_by status.Usage a b tt le
@@ -108,7 +108,7 @@ module _ (plain : PlainIsHistory) (p q : List ℕ) where
     ran = is_run.history run.lines v0 z0 start here.0 here.2 (is_run.unspent here.0 here.2)
 
     -- it came to its end
-    came_to_end : IsWhole run.ended → run.stopped ≡ run.new.moment → LeavesAt p q Came (stops run)
+    came_to_end : NotCutShort run.ended → run.stopped ≡ run.new.moment → LeavesAt p q Came (stops run)
     came_to_end whole same v z find_v find_z =
         let h = ran.history in
         let end : IsWholeRun h p q (starts run) (now run.new) run.ended = ran.whole whole in
@@ -135,7 +135,7 @@ module _ (plain : PlainIsHistory) (p q : List ℕ) where
         )
 
     -- it was stopped
-    module _ (not : IsWhole run.ended → run.stopped ≡ run.new.moment → ⊥) where
+    module _ (not : NotCutShort run.ended → run.stopped ≡ run.new.moment → ⊥) where
       nothing_done : IsUntouched p q run.create (starts run) (stops run) → LeavesAt p q Came (stops run)
       nothing_done u v z find_v find_z =
           let x = before v z (u.volume.leaves v find_v) (u.store.leaves z find_z) in

@@ -1,7 +1,7 @@
 -- A session while its replies are said.
 use Rattle.std.proofs.Common.{◌≡◌, List, refl, sym, subst}
 use Rattle.std.specs.Option.{option_map}
-use Rattle.tm_store_records.specs.Held.{stored_on as store_stored_on}
+use Rattle.tm_store_records.specs.Held.{store_stored_on}
 use Rattle.tm_volume.specs.Seen.{stored_on}
 use Rattle.tm_machine.specs.Session.{Seen, Standing, VolumeStands, StoreStands, state_on}
 use Rattle.tm_machine.specs.States.{Stored}

@@ -1,5 +1,5 @@
 -- What a run says is what its outcome says.
-use Rattle.std.proofs.Common.{◌≡◌, ◌≢◌, ◌⊎◌, inl, inr, ⊎_elim, ℕ, ◌<◌, ◌≤◌, ◌-◌, ◌^◌, Bool, true, false, List, Option, Some, None, Ok, Err, if◌then◌else◌, ◌++◌, length, take, ap, sym, ◌∙◌, subst, refl, arith}
+use Rattle.std.proofs.Common.{if◌then◌else◌, ◌≡◌, ◌≢◌, ◌⊎◌, inl, inr, ⊎_elim, ℕ, ◌<◌, ◌≤◌, ◌-◌, ◌^◌, Bool, true, false, List, Option, Some, None, Ok, Err, ◌++◌, length, take, ap, sym, ◌∙◌, subst, refl, arith}
 use Rattle.std.proofs.lemmas.Bool.{cases_lt}
 use Rattle.tm_world.specs.Outside.{Outside}
 use Rattle.tm_text.specs.declared.line.Line.{Line}
@@ -12,9 +12,9 @@ use Rattle.tm_run.specs.declared.status.Status.TheVariants as status
 use Rattle.tm_run.specs.declared.top.ScriptEnd.{ScriptEnd}
 use Rattle.tm_run.specs.declared.top.ScriptEnd.TheVariants.{TooLong, BadLine}
 use Rattle.tm_run.specs.Command.{IsCommand}
-use Rattle.tm_run.specs.Scripts.{IsReading, StandsWith, longest_script}
+use Rattle.tm_run.specs.Scripts.{IsReading, StandsWith}
 use Rattle.tm_run.specs.Outcomes.{FitsStart, IsStart, OneStart, Outcome, OneOutcome, Ran, StartsRun, too_long, bad, bad_store, bad_volume, done_status, replies, runs, bad_line, too_long_line}
-use Rattle.tm_run.specs.Ends.{IsBefore, IsDone, IsWhole, SaysAll, SaysPrefix, Speaks, GaveOutcome, GaveRan}
+use Rattle.tm_run.specs.Ends.{IsBefore, IsDone, NotCutShort, SaysAll, SaysPrefix, Speaks, GaveOutcome, GaveRan}
 use Rattle.tm_run.specs.Pairs.{AreSmall, found, image_at}
 use Rattle.tm_run.specs.Claims.{KeepsBoth, LeavesEnd, NamesNoLines, PassesPlain, ReadsFit, RunsOver, StaysElsewhere, StaysFit}
 use Rattle.tm_run.specs.Moments.{IsMoment, RanOver, Stage, going_on, untouched}
@@ -36,7 +36,8 @@ use Rattle.tm_run.proofs.FindingLemmas.{found_as_read, keeps_same}
 use Rattle.tm_run.proofs.PathLemmas.{history_ends}
 use Rattle.tm_run.proofs.ScriptLemmas.{same_reads}
 use Rattle.tm_run.proofs.SayLemmas.{prefix_after}
-use Rattle.tm_run.specs.Readings.{ReadsLines, IsEndOfLines, IsOneOf}
+use Rattle.tm_run.specs.Readings.{ReadsLines, IsEndOfLines, EndsAsOrCut}
+use Rattle.tm_base.specs.Limits.{max_blocks, max_script_bytes}
 
 pub same_outside : (outside : Outside) → IsReading outside outside
 same_outside outside = record { stands = refl; scripts = refl; volume = refl; store = refl; said = refl }
@@ -58,29 +59,29 @@ says_a_prefix one words old mid new status text small reading outcome says other
     record { count = in_mid.count; within = in_mid.within; part = in_mid.part ∙ ap (λ (s : List ℕ). s ++ take in_mid.count told) reading.said }
 
 -- a run that is whole ended in no fault
-pub no_fault : (ended : Status) → IsWhole ended → ended ≢ status.OutFault
-no_fault ended whole is = subst IsWhole is whole
+pub no_fault : (ended : Status) → NotCutShort ended → ended ≢ status.OutFault
+no_fault ended whole is = subst NotCutShort is whole
 
-pub ends_well : (wanted ended : Status) → (ended ≡ wanted) ⊎ (ended ≡ status.OutFault) → IsWhole ended → ended ≡ wanted
+pub ends_well : (wanted ended : Status) → (ended ≡ wanted) ⊎ (ended ≡ status.OutFault) → NotCutShort ended → ended ≡ wanted
 ends_well wanted ended (inl is) whole = is
-ends_well wanted ended (inr is) whole = absurd (subst IsWhole is whole)
+ends_well wanted ended (inr is) whole = absurd (subst NotCutShort is whole)
 
-pub ends_as : (wanted ended : Status) → IsOneOf wanted ended → IsWhole ended → ended ≡ wanted
+pub ends_as : (wanted ended : Status) → EndsAsOrCut wanted ended → NotCutShort ended → ended ≡ wanted
 ends_as wanted ended (inl is) whole = is
-ends_as wanted ended (inr (inl is)) whole = absurd (subst IsWhole is whole)
-ends_as wanted ended (inr (inr is)) whole = absurd (subst IsWhole is whole)
+ends_as wanted ended (inr (inl is)) whole = absurd (subst NotCutShort is whole)
+ends_as wanted ended (inr (inr is)) whole = absurd (subst NotCutShort is whole)
 
 -- the outcomes of a script that gave no lines
 pub of_long : (words : List (List ℕ)) (old : Outside) (v s p : List ℕ) (create : Option ℕ) (why : ScriptEnd) → IsCommand words v s p create → why ≡ TooLong
     → ReadsLines old p (Err why) → Outcome words old (status.Script 0) too_long_line
 of_long words old v s p create why is because reads =
-    let long : StandsWith old p (λ script. longest_script < length script) = subst (λ (e : ScriptEnd). ReadsLines old p (Err e)) because reads in
+    let long : StandsWith old p (λ script. max_script_bytes < length script) = subst (λ (e : ScriptEnd). ReadsLines old p (Err e)) because reads in
     too_long is long.stands long.has
 
 pub of_bad : (words : List (List ℕ)) (old : Outside) (v s p : List ℕ) (create : Option ℕ) (why : ScriptEnd) (n : ℕ) → IsCommand words v s p create → why ≡ BadLine n
     → ReadsLines old p (Err why) → Outcome words old (status.Script n) (bad_line n)
 of_bad words old v s p create why n is because reads =
-    let worse : StandsWith old p (λ script. (length script ≤ longest_script) × IsFirstBad script n) = subst (λ (e : ScriptEnd). ReadsLines old p (Err e)) because reads in
+    let worse : StandsWith old p (λ script. (length script ≤ max_script_bytes) × IsFirstBad script n) = subst (λ (e : ScriptEnd). ReadsLines old p (Err e)) because reads in
     bad is worse.stands worse.has.0 worse.has.1
 
 -- lines end after the images are attached
@@ -234,31 +235,31 @@ spent_or_not None = inr (λ spent. none_some spent.volume spent.is)
 spent_or_not (Some v) = by_clean v v.clean refl
 
 module _ (one_side : OneSide) (where_fits : HistoryWhereFits) (held_fits : HeldFits) (words : List (List ℕ)) (old new : Log) (ended : Status) (lines : List Line) (v z : Image)
-    (start : IsStart words (now old) lines v z) (few : v.count ≤ 262144)
+    (start : IsStart words (now old) lines v z) (few : v.count ≤ max_blocks)
     (history : (r : Stored) → PairReads r v z → ¬ IsSpent r.volume → RanOver lines start.volume start.store start.create v.count z.count r old new ended)
     (shut : (CanOpen v → ⊥) → Passes old new (KeepsBoth start.volume start.store start.create (now old)))
     (finds : FindsPair start.volume start.store start.create ReadsFit (now old)) where
-  abbrev Left : Outside → Type 0
-  Left = LeavesAt start.volume start.store ReadsFit
+  abbrev LeavesFit : Outside → Type 0
+  LeavesFit = LeavesAt start.volume start.store ReadsFit
 
-  kept_fits : (o : Outside) → KeepsImage start.volume start.create (now old) o → KeepsImage start.store start.create (now old) o → Left o
+  kept_fits : (o : Outside) → KeepsImage start.volume start.create (now old) o → KeepsImage start.store start.create (now old) o → LeavesFit o
   kept_fits o volume store x y x_left y_left = finds x y (volume.leaves x x_left) (store.leaves y y_left)
 
-  stage_fits : (r : Stored) (h : History) (o : Outside) → FitsReopened r → h ≡ plain_history v.count z.count lines r → Stage h start.volume start.store start.create (now old) o → Left o
+  stage_fits : (r : Stored) (h : History) (o : Outside) → FitsReopened r → h ≡ plain_history v.count z.count lines r → Stage h start.volume start.store start.create (now old) o → LeavesFit o
   stage_fits r h o fits is (untouched u) = kept_fits o u.volume u.store
   stage_fits r h o fits is (going_on w) = λ x y x_left y_left.
       let at = w.left x y x_left y_left in
       record { stored = held h at.made; reads = at.reads; fits = subst (λ (g : History). FitsReopened (held g at.made)) (sym is) (held_fits v.count z.count lines r at.made fits) }
 
-  over : (f : ReadsFit v z) → IsSpent f.stored.volume ⊎ ¬ IsSpent f.stored.volume → Passes old new Left
-  over f (inl spent) = Passes-weaker old new _ Left (λ o both. kept_fits o both.volume both.store)
+  over : (f : ReadsFit v z) → IsSpent f.stored.volume ⊎ ¬ IsSpent f.stored.volume → Passes old new LeavesFit
+  over f (inl spent) = Passes-weaker old new _ LeavesFit (λ o both. kept_fits o both.volume both.store)
       (shut (λ can. can.unspent (subst IsSpent (one_side v f.stored.volume can.volume few f.reads.volume_reads can.reads) spent)))
   over f (inr unspent) =
       let ran = history f.stored f.reads unspent in
       let h = ran.history in
       let is : h ≡ plain_history v.count z.count lines f.stored =
       where_fits v.count z.count lines h (subst FitsReopened (sym ran.first) f.fits) ran.is ∙ ap (plain_history v.count z.count lines) ran.first in
-      Passes-weaker old new _ Left (λ o moment. stage_fits f.stored h o f.fits is moment.stage) ran.moments
+      Passes-weaker old new _ LeavesFit (λ o moment. stage_fits f.stored h o f.fits is moment.stage) ran.moments
 
   found_fit : ReadsFit v z
   found_fit =
@@ -266,7 +267,7 @@ module _ (one_side : OneSide) (where_fits : HistoryWhereFits) (held_fits : HeldF
       (subst (λ (u : Image). ReadsFit (image_at start.volume start.create (now old)) u) (sym start.store_is)
       (finds (image_at start.volume start.create (now old)) (image_at start.store start.create (now old)) (found_as_read start.volume start.create (now old)) (found_as_read start.store start.create (now old))))
 
-  pub start_fit : Passes old new Left
+  pub start_fit : Passes old new LeavesFit
   start_fit = over found_fit (spent_or_not found_fit.stored.volume)
 
 -- ---- the clauses in the plain machine's words
@@ -279,10 +280,10 @@ module _ (plain : PlainWhereFits) (where_fits : HistoryWhereFits) (words : List 
       where_fits v.count z.count lines ran.history (subst FitsReopened (sym ran.first) (fits lines v z start r reads)) ran.is ∙ ap (plain_history v.count z.count lines) ran.first in
       subst (λ (h : History). Passes old new (IsMoment h start.volume start.store start.create (now old))) is ran.moments
 
-  done_whole : IsDone ended → IsWhole ended
+  done_whole : IsDone ended → NotCutShort ended
   done_whole done = by_status ended done
     where
-      by_status : (e : Status) → IsDone e → IsWhole e
+      by_status : (e : Status) → IsDone e → NotCutShort e
       by_status status.Done d = tt
       by_status status.DoneRefused d = tt
       by_status _ d = absurd d

@@ -2,21 +2,18 @@
 use Rattle.std.specs.Prelude.{◌≡◌, ◌≢◌, ◌≤◌, ℕ, List, [], ◌∷◌, Option, Some, None, codes, map, string_bytes}
 use Rattle.std.specs.Str.Parse.{IsNumeral, digits_value, without_leading_plus}
 use Rattle.std.proofs.Common.{String, Global}
+use Rattle.tm_base.specs.Limits.{max_blocks}
 
 -- words as lists of bytes
 abbrev pub texts : List (String Global) → List (List ℕ)
 texts words = map (λ w. string_bytes w) words
-
--- the most blocks of an image
-abbrev pub most_blocks : ℕ
-most_blocks = 262_144
 
 -- decimal digits, before which a plus may stand, that write a number of blocks from 1 to the most
 pub record IsBlocks (word : List ℕ) (blocks : ℕ) : Type 0 where
   pub numeral : IsNumeral 10 (without_leading_plus word)
   pub value : blocks ≡ digits_value 10 (without_leading_plus word)
   pub least : 1 ≤ blocks
-  pub most : blocks ≤ most_blocks
+  pub most : blocks ≤ max_blocks
 
 -- `--create BLOCKS`
 pub record IsCreateOption (words : List (List ℕ)) (blocks : ℕ) : Type 0 where

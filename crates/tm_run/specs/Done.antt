@@ -12,7 +12,7 @@ use Rattle.tm_machine.specs.Histories.{AreDone, IsBegunBy, any_refused_in, commi
 use Rattle.tm_machine.specs.Session.{Effect}
 use Rattle.tm_machine.specs.States.{State, Stored, kept}
 use Rattle.tm_machine.specs.Stops.{IsFramed, KeepsBlank, LeavesCommits, LeavesPair, PairReads}
-use Rattle.tm_run.specs.Ends.{IsWhole, SaysAll, SaysPrefix}
+use Rattle.tm_run.specs.Ends.{NotCutShort, SaysAll, SaysPrefix}
 use Rattle.tm_run.specs.Outcomes.{done_status}
 use Rattle.tm_run.specs.declared.status.Status.{Status}
 
@@ -57,4 +57,4 @@ pub record SaidLines (s : State) (lines : List Line) (old new : Log) (Answers : 
 -- how lines ended: where they were not cut short, the status tells whether one was refused, all replies were said, and a stop
 -- leaves what is kept of the last state
 abbrev pub EndsDone : Status → State → List Effect → Outside → Outside → Type 0
-EndsDone ended s done old new = IsWhole ended → (ended ≡ done_status (any_refused_in done)) × SaysAll (said_in done) old new × LeavesPair (kept (state_in s done)) new
+EndsDone ended s done old new = NotCutShort ended → (ended ≡ done_status (any_refused_in done)) × SaysAll (said_in done) old new × LeavesPair (kept (state_in s done)) new

@@ -10,16 +10,16 @@ use Rattle.tm_run.specs.Outcomes.{Outcome, Ran}
 use Rattle.tm_run.specs.Pairs.{KeepsPair}
 
 -- the run was not cut short by a fault or by want of memory
-abbrev pub IsWhole : Status → Type 0
-IsWhole status.Done = Unit {0}
-IsWhole status.DoneRefused = Unit {0}
-IsWhole status.Usage = Unit {0}
-IsWhole (status.Script line) = Unit {0}
-IsWhole (status.BadImage side cause place) = Unit {0}
-IsWhole (status.Device side) = ⊥
-IsWhole status.Memory = ⊥
-IsWhole status.ScriptFault = ⊥
-IsWhole status.OutFault = ⊥
+abbrev pub NotCutShort : Status → Type 0
+NotCutShort status.Done = Unit {0}
+NotCutShort status.DoneRefused = Unit {0}
+NotCutShort status.Usage = Unit {0}
+NotCutShort (status.Script line) = Unit {0}
+NotCutShort (status.BadImage side cause place) = Unit {0}
+NotCutShort (status.Device side) = ⊥
+NotCutShort status.Memory = ⊥
+NotCutShort status.ScriptFault = ⊥
+NotCutShort status.OutFault = ⊥
 
 -- it was, but not by a fault of the output
 abbrev pub IsCut : Status → Type 0

@@ -12,7 +12,7 @@ use Rattle.tm_machine.specs.States.{Stored, kept, opened}
 use Rattle.tm_machine.specs.Stops.{HaveNoStore, HaveNoVolume, LeavesBegun, LeavesCommits, LeavesPair, PairReads}
 use Rattle.tm_run.specs.declared.status.Status.{Status}
 use Rattle.tm_run.specs.Done.{LeavesDone}
-use Rattle.tm_run.specs.Ends.{IsWhole, SaysAll}
+use Rattle.tm_run.specs.Ends.{NotCutShort, SaysAll}
 use Rattle.tm_run.specs.Outcomes.{done_status}
 use Rattle.tm_run.specs.Places.{ElsewhereSame, KeepsImage, LeavesAt}
 
@@ -65,7 +65,7 @@ pub record RanOver (lines : List Line) (p q : List ℕ) (create : Option ℕ) (v
   pub first : history.first ≡ r
   pub is : IsHistory volume_blocks store_blocks lines history
   pub moments : Passes old new (IsMoment history p q create (now old))
-  pub whole : IsWhole ended → IsWholeRun history p q (now old) (now new) ended
+  pub whole : NotCutShort ended → IsWholeRun history p q (now old) (now new) ended
 
 -- ---- a run from its parts, on the sides
 
@@ -84,7 +84,7 @@ pub record RanOnSides (lines : List Line) (volume_blocks store_blocks : ℕ) (r 
 
 -- how it ends, where it is not cut short
 abbrev pub EndsOnSides : Status → Outside → Outside → History → Type 0
-EndsOnSides ended old new h = IsWhole ended
+EndsOnSides ended old new h = NotCutShort ended
     → (ended ≡ done_status (any_refused_in h.done)) × SaysAll (said_in h.done) old new × LeavesPair (last_from h.first (history_commits h)) new
 
 -- neither disk is another

@@ -2,6 +2,7 @@
 use Rattle.std.specs.Prelude.{◌≡◌, ℕ, ◌<◌, ◌≤◌, Bool, true, false, Option, Some, List, ◌++◌, length, codes}
 use Rattle.std.specs.Fmt.{decimal}
 use Rattle.tm_base.specs.declared.refused.Side.{Side}
+use Rattle.tm_base.specs.Limits.{max_blocks, max_script_bytes}
 use Rattle.tm_base.specs.declared.refused.Side.TheVariants as side
 use Rattle.tm_world.specs.Disk.{Image}
 use Rattle.tm_world.specs.Outside.{Outside}
@@ -19,7 +20,6 @@ use Rattle.tm_run.specs.declared.status.Status.{Status}
 use Rattle.tm_run.specs.declared.status.Status.TheVariants as status
 use Rattle.tm_run.specs.Command.{IsCommand, IsSomeCommand}
 use Rattle.tm_run.specs.Pairs.{AreSmall, image_at}
-use Rattle.tm_run.specs.Scripts.{longest_script}
 
 -- ---- the lines that a run says in place of replies
 
@@ -78,7 +78,7 @@ pub record IsStart (words : List (List ℕ)) (outside : Outside) (lines : List L
   pub script : List ℕ
   pub command : IsCommand words volume store path create
   pub stands : outside.scripts path ≡ Some script
-  pub short : length script ≤ longest_script
+  pub short : length script ≤ max_script_bytes
   pub is_script : IsScript script lines
   pub volume_is : v ≡ image_at volume create outside
   pub store_is : z ≡ image_at store create outside
@@ -89,10 +89,10 @@ pub data Outcome (words : List (List ℕ)) (outside : Outside) : Status → List
   usage : (IsSomeCommand words → ⊥) → Outcome words outside status.Usage usage_line
   -- the script has more bytes than a script may have
   too_long : {volume store path script : List ℕ} {create : Option ℕ} → IsCommand words volume store path create → outside.scripts path ≡ Some script
-      → longest_script < length script → Outcome words outside (status.Script 0) too_long_line
+      → max_script_bytes < length script → Outcome words outside (status.Script 0) too_long_line
   -- a line of the script is outside the grammar, and this is the first
   bad : {volume store path script : List ℕ} {create : Option ℕ} {n : ℕ} → IsCommand words volume store path create → outside.scripts path ≡ Some script
-      → length script ≤ longest_script → IsFirstBad script n → Outcome words outside (status.Script n) (bad_line n)
+      → length script ≤ max_script_bytes → IsFirstBad script n → Outcome words outside (status.Script n) (bad_line n)
   -- the script is lines, which are run over the images
   runs : {lines : List Line} {v z : Image} {ended : Status} {text : List ℕ} → IsStart words outside lines v z → Ran v z lines ended text
       → Outcome words outside ended text
@@ -114,8 +114,8 @@ StartsRun = (words : List (List ℕ)) (outside : Outside) (lines : List Line) (v
 
 -- an image of which a check fails can't be opened
 pub record BadIsShut : Type 0 where
-  pub volume : (v : Image) (c : Cause) (place : ℕ) → 3 ≤ v.count → v.count ≤ 262144 → FailsVolume v c place → CanOpen v → ⊥
-  pub store : (z : Image) (c : Cause) (place : ℕ) → 3 ≤ z.count → z.count ≤ 262144 → StoreFails z c place → CanOpenStore z → ⊥
+  pub volume : (v : Image) (c : Cause) (place : ℕ) → 3 ≤ v.count → v.count ≤ max_blocks → FailsVolume v c place → CanOpen v → ⊥
+  pub store : (z : Image) (c : Cause) (place : ℕ) → 3 ≤ z.count → z.count ≤ max_blocks → StoreFails z c place → CanOpenStore z → ⊥
 
 -- ---- fit
 

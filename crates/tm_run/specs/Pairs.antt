@@ -1,10 +1,11 @@
 -- The pair of images that a run is given.
-use Rattle.std.specs.Prelude.{◌≡◌, ℕ, ◌≤◌, List, Option, Some, if◌then◌else◌}
+use Rattle.std.specs.Prelude.{if◌then◌else◌, ◌≡◌, ℕ, ◌≤◌, List, Option, Some}
 use Rattle.tm_world.specs.Disk.{Disk, Image}
 use Rattle.tm_world.specs.Outside.{Outside, Place, disk, made, AreApart}
 use Rattle.tm_world.specs.Torn.{as_read}
 use Rattle.tm_world.specs.declared.world.Side.{Side}
 use Rattle.tm_world.specs.declared.world.Side.TheVariants.{Volume as VolumeSide, Store as StoreSide}
+use Rattle.tm_base.specs.Limits.{max_blocks}
 
 -- the image that stands at a path, or that is made there
 abbrev pub found : List ℕ → Option ℕ → Outside → Disk
@@ -16,7 +17,7 @@ image_at path create outside = as_read (found path create outside)
 
 -- no image has more blocks than an image may have
 abbrev pub AreSmall : Outside → Type 0
-AreSmall outside = (place : Place) → (outside.stands place).count ≤ 262144
+AreSmall outside = (place : Place) → (outside.stands place).count ≤ max_blocks
 
 -- the two sides are apart, and read as these images
 pub record IsPair (v z : Image) (now : Outside) : Type 0 where

@@ -13,11 +13,11 @@ use Rattle.tm_machine.specs.Stops.{PairReads}
 use Rattle.tm_run.specs.declared.status.Status.{Status}
 use Rattle.tm_run.specs.Claims.{RunsOver}
 use Rattle.tm_run.specs.Command.{IsCommand}
-use Rattle.tm_run.specs.Ends.{IsWhole}
+use Rattle.tm_run.specs.Ends.{NotCutShort}
 use Rattle.tm_run.specs.Outcomes.{done_status}
 use Rattle.tm_run.specs.Pairs.{image_at}
 use Rattle.tm_run.specs.Places.{FindsLeft, FindsPair, LeavesAt}
-use Rattle.tm_run.specs.Scripts.{longest_script}
+use Rattle.tm_base.specs.Limits.{max_script_bytes}
 
 -- a run: its words, its lines, the blocks that it makes, the clock before and after it, how it ended, and the moment at which it
 -- was stopped, or its last
@@ -48,7 +48,7 @@ module _ (p q : List ℕ) where
     pub script : List ℕ
     pub command : IsCommand run.words p q path run.create
     pub stands : (starts run).scripts path ≡ Some script
-    pub short : length script ≤ longest_script
+    pub short : length script ≤ max_script_bytes
     pub is_script : IsScript script run.lines
     pub history : RunsOver run.words run.old run.new run.ended
     pub unspent : (r : Stored) → PairReads r (image_at p run.create (starts run)) (image_at q run.create (starts run)) → ¬ IsSpent r.volume
@@ -68,7 +68,7 @@ pub record Went (run : Run) (h : History) (y : Stored) : Type 0 where
   pub within : IsWithin h spoken made
   pub said : (stops run).said ≡ (starts run).said ++ take spoken (said_in h.done)
   pub holds : y ≡ held h made
-  pub whole : IsWhole run.ended → run.stopped ≡ run.new.moment
+  pub whole : NotCutShort run.ended → run.stopped ≡ run.new.moment
       → (run.ended ≡ done_status (any_refused_in h.done)) × (spoken ≡ length (said_in h.done)) × (y ≡ last_from h.first (history_commits h))
 
 module _ (p q : List ℕ) where

@@ -1,10 +1,10 @@
 //! The words of the command.
 ghost use Rattle.std.specs.Prelude.{◌≡◌, ◌≤◌, ◌∷◌, ℕ, List, IfSome, IfNone};
 ghost use Rattle.std.specs.Option.{ForSome};
-ghost use Rattle.tm_run.specs.Command.{IsBlocks, IsCreateOption, IsCommand, IsSomeCommand, texts, most_blocks};
+ghost use Rattle.tm_run.specs.Command.{IsBlocks, IsCreateOption, IsCommand, IsSomeCommand, texts};
+ghost use Rattle.tm_base.specs.Limits.{max_blocks};
 
-/// The most blocks of an image.
-const MOST_BLOCKS: u32 = 262_144;
+use tm_base::limits::MAX_BLOCKS;
 
 /// What a command names.
 #[derive(Clone, Copy, Debug, PartialEq, Eq)]
@@ -38,7 +38,7 @@ fn read_blocks(word: &str) -> Option<u32>
     ensures none { IfNone result ((blocks : ℕ) → IsBlocks word.now blocks → ⊥) }
 {
     match word.parse::<u32>() {
-        Ok(blocks) if (1..=MOST_BLOCKS).contains(&blocks) => Some(blocks),
+        Ok(blocks) if (1..=MAX_BLOCKS).contains(&blocks) => Some(blocks),
         _ => None,
     }
 }
@@ -59,7 +59,7 @@ fn read_create(words: &[String]) -> Option<u32>
 pub(crate) fn read_words(words: &[String]) -> Option<Command<'_>>
     ensures some { IfSome result (λ c. IsCommand (texts words.now) c.volume.now c.store.now c.script.now c.create) }
     ensures none { IfNone result (IsSomeCommand (texts words.now) → ⊥) }
-    ensures create { IfSome result (λ c. ForSome c.create (λ blocks. (1 ≤ blocks) × (blocks ≤ most_blocks))) }
+    ensures create { IfSome result (λ c. ForSome c.create (λ blocks. (1 ≤ blocks) × (blocks ≤ max_blocks))) }
 {
     let (volume, words) = option_value(words, "--volume")?;
     let (store, words) = option_value(words, "--store")?;

@@ -1,8 +1,9 @@
 //! Lines over a pair of images.
 ghost use Rattle.std.specs.Prelude.{◌≡◌, ◌≢◌, ◌≤◌, ℕ, List, Option, All};
 ghost use Rattle.std.specs.Option.{ForSome};
-ghost use Rattle.tm_base.specs.declared.refused.Side.{Side as Named};
-ghost use Rattle.tm_machine.specs.Session.{IsOpen, IsSynced, Standing, part_of, state_on};
+ghost use Rattle.tm_base.specs.declared.refused.Side.{Side as RefusedSide};
+ghost use Rattle.tm_base.specs.Limits.{max_blocks};
+ghost use Rattle.tm_machine.specs.Session.{IsOpen, IsSynced, Standing, state_on};
 ghost use Rattle.tm_machine.specs.States.{Stored};
 ghost use Rattle.tm_machine.specs.Stops.{CanOpen, CanOpenStore, IsFramed, PairReads};
 ghost use Rattle.tm_text.specs.Bounds.{IsValidLine};
@@ -10,13 +11,13 @@ ghost use Rattle.tm_volume.specs.Answers.{IsSpent};
 ghost use Rattle.tm_volume.specs.Reads.{SideReads};
 ghost use Rattle.tm_volume.specs.Stored.{StoredVolume};
 ghost use Rattle.tm_world.specs.Disk.{Image};
-ghost use Rattle.tm_world.specs.Faults.{NeverLess, Rose};
+ghost use Rattle.tm_world.specs.Faults.{NeverLess, Rose, part_at};
 ghost use Rattle.tm_world.specs.Log.{now, Passes};
 ghost use Rattle.tm_world.specs.declared.world.Part.{Part};
 ghost use Rattle.tm_world.specs.declared.world.Side.TheVariants.{Volume as VolumeSide, Store as StoreSide};
 ghost use Rattle.tm_run.specs.Claims.{KeepsBoth, KeepsStore};
 ghost use Rattle.tm_run.specs.Done.{EndsDone, SaidLines};
-ghost use Rattle.tm_run.specs.Ends.{GaveRan, IsCut, IsWhole, SaysPrefix};
+ghost use Rattle.tm_run.specs.Ends.{GaveRan, IsCut, NotCutShort, SaysPrefix};
 ghost use Rattle.tm_run.specs.Moments.{BesideShut, EndsOnSides, KeepsDisks, RanOnSides, RanOver};
 ghost use Rattle.tm_run.specs.Outcomes.{FitsPair, Ran, done_status};
 ghost use Rattle.tm_run.specs.Pairs.{IsPair, image_at};
@@ -65,7 +66,7 @@ fn run_session<W: World>(
     ensures ends { IsEndOfLines result }
     ensures never_less { NeverLess (W.faults world.old) (W.faults world.new) }
     ensures fault { result ≡ Status.OutFault → Rose (W.faults world.old Part.Out) (W.faults world.new Part.Out) }
-    ensures device { (side : Named) → result ≡ Status.Device side → Rose (W.faults world.old (part_of side)) (W.faults world.new (part_of side)) }
+    ensures device { (side : RefusedSide) → result ≡ Status.Device side → Rose (W.faults world.old (part_at side)) (W.faults world.new (part_at side)) }
 {
     session_is_left();
     let refused = match run_lines(alloc, session, world, lines.as_slice()) {
@@ -90,14 +91,14 @@ fn run_images<W: World>(
     lines: &Lines,
 ) -> Status
     requires count { W.blocks world.old VolumeSide ≡ volume_blocks }
-    requires small { volume_blocks ≤ 262144 }
+    requires small { volume_blocks ≤ max_blocks }
     requires store_count { W.blocks world.old StoreSide ≡ store_blocks }
-    requires store_small { store_blocks ≤ 262144 }
+    requires store_small { store_blocks ≤ max_blocks }
     requires settled { W.told → IsSynced (now (W.log world.old)) }
     requires lines { All IsValidLine lines.now }
     ensures history { W.told → (v z : Image) → IsPair v z (now (W.log world.old)) → (r : Stored) → PairReads r v z → ¬ IsSpent r.volume
         → RanOnSides lines.now v.count z.count r (W.log world.old) (W.log world.new) (EndsOnSides result (now (W.log world.old)) (now (W.log world.new))) }
-    ensures outcome { W.told → (v z : Image) → IsPair v z (now (W.log world.old)) → FitsPair v z → IsWhole result → GaveRan v z lines.now (now (W.log world.old)) (now (W.log world.new)) result }
+    ensures outcome { W.told → (v z : Image) → IsPair v z (now (W.log world.old)) → FitsPair v z → NotCutShort result → GaveRan v z lines.now (now (W.log world.old)) (now (W.log world.new)) result }
     ensures prefix { W.told → (v z : Image) → IsPair v z (now (W.log world.old)) → FitsPair v z → (status : Status) (text : List ℕ) → Ran v z lines.now status text
         → SaysPrefix text (now (W.log world.old)) (now (W.log world.new)) }
     ensures framed { W.told → Passes (W.log world.old) (W.log world.new) (IsFramed (now (W.log world.old))) }
@@ -108,7 +109,7 @@ fn run_images<W: World>(
     ensures ends { IsEndOfLines result }
     ensures never_less { NeverLess (W.faults world.old) (W.faults world.new) }
     ensures fault { result ≡ Status.OutFault → Rose (W.faults world.old Part.Out) (W.faults world.new Part.Out) }
-    ensures device { (side : Named) → result ≡ Status.Device side → Rose (W.faults world.old (part_of side)) (W.faults world.new (part_of side)) }
+    ensures device { (side : RefusedSide) → result ≡ Status.Device side → Rose (W.faults world.old (part_at side)) (W.faults world.new (part_at side)) }
 {
     volume_sides_read_as_one();
     volume_fails_once();
@@ -134,14 +135,14 @@ pub(crate) fn run_command<W: World>(
     command: Command<'_>,
     lines: &Lines,
 ) -> Status
-    requires create { ForSome command.create (λ n. (1 ≤ n) × (n ≤ 262144)) }
+    requires create { ForSome command.create (λ n. (1 ≤ n) × (n ≤ max_blocks)) }
     requires differ { command.volume.now ≢ command.store.now }
     requires lines { All IsValidLine lines.now }
     ensures history { W.told → let old = now (W.log world.old) in let v = image_at command.entry.volume.now command.entry.create old in let z = image_at command.entry.store.now command.entry.create old in
         (r : Stored) → PairReads r v z → ¬ IsSpent r.volume
         → RanOver lines.now command.entry.volume.now command.entry.store.now command.entry.create v.count z.count r (W.log world.old) (W.log world.new) result }
     ensures outcome { W.told → let old = now (W.log world.old) in let v = image_at command.entry.volume.now command.entry.create old in let z = image_at command.entry.store.now command.entry.create old in
-        FitsPair v z → IsWhole result → GaveRan v z lines.now old (now (W.log world.new)) result }
+        FitsPair v z → NotCutShort result → GaveRan v z lines.now old (now (W.log world.new)) result }
     ensures prefix { W.told → let old = now (W.log world.old) in let v = image_at command.entry.volume.now command.entry.create old in let z = image_at command.entry.store.now command.entry.create old in
         FitsPair v z → (status : Status) (text : List ℕ) → Ran v z lines.now status text → SaysPrefix text old (now (W.log world.new)) }
     ensures elsewhere { W.told → Passes (W.log world.old) (W.log world.new) (ElsewhereSame command.entry.volume.now command.entry.store.now (now (W.log world.old))) }
@@ -155,7 +156,7 @@ pub(crate) fn run_command<W: World>(
     ensures ends { IsEndOfLines result }
     ensures never_less { NeverLess (W.faults world.old) (W.faults world.new) }
     ensures fault { result ≡ Status.OutFault → Rose (W.faults world.old Part.Out) (W.faults world.new Part.Out) }
-    ensures device { (side : Named) → result ≡ Status.Device side → Rose (W.faults world.old (part_of side)) (W.faults world.new (part_of side)) }
+    ensures device { (side : RefusedSide) → result ≡ Status.Device side → Rose (W.faults world.old (part_at side)) (W.faults world.new (part_at side)) }
 {
     commits_end();
     plain_is_history();

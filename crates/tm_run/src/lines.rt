@@ -1,14 +1,14 @@
 //! The lines of a script, one after the other.
 ghost use Rattle.std.specs.Prelude.{◌≡◌, IfOk, OnOk, Err, All, is_some};
-ghost use Rattle.tm_base.specs.declared.refused.Side.{Side as Named};
+ghost use Rattle.tm_base.specs.declared.refused.Side.{Side as RefusedSide};
 ghost use Rattle.tm_machine.specs.Allowed.{after_of, reply_of};
 ghost use Rattle.tm_machine.specs.Histories.{any_refused_in, said_in, state_in};
-ghost use Rattle.tm_machine.specs.Session.{IsOpen, Standing, part_of, state_on};
+ghost use Rattle.tm_machine.specs.Session.{IsOpen, Standing, state_on};
 ghost use Rattle.tm_text.specs.Bounds.{IsValidLine};
 ghost use Rattle.tm_tree.specs.Refusing.{first_refused};
 ghost use Rattle.tm_world.specs.declared.world.Part.{Part};
 ghost use Rattle.tm_world.specs.Log.{now};
-ghost use Rattle.tm_world.specs.Faults.{Rose, NeverLess};
+ghost use Rattle.tm_world.specs.Faults.{Rose, NeverLess, part_at};
 ghost use Rattle.tm_reply.specs.Replies.{reply_text};
 ghost use Rattle.tm_run.specs.Done.{SaidLine, SaidLines};
 ghost use Rattle.tm_run.specs.Ends.{SaysAll};
@@ -70,7 +70,7 @@ fn run_line<W: World>(
     ensures blocks { W.blocks world.new ≡ W.blocks world.old }
     ensures never_less { NeverLess (W.faults world.old) (W.faults world.new) }
     ensures fault { result ≡ Err RunEnd.OutFault → Rose (W.faults world.old Part.Out) (W.faults world.new Part.Out) }
-    ensures device { (side : Named) → result ≡ Err (RunEnd.Device side) → Rose (W.faults world.old (part_of side)) (W.faults world.new (part_of side)) }
+    ensures device { (side : RefusedSide) → result ≡ Err (RunEnd.Device side) → Rose (W.faults world.old (part_at side)) (W.faults world.new (part_at side)) }
 {
     session_is_left();
     let reply = match session.line(world, line) {
@@ -104,7 +104,7 @@ pub(crate) fn run_lines<W: World>(
     ensures blocks { W.blocks world.new ≡ W.blocks world.old }
     ensures never_less { NeverLess (W.faults world.old) (W.faults world.new) }
     ensures fault { result ≡ Err RunEnd.OutFault → Rose (W.faults world.old Part.Out) (W.faults world.new Part.Out) }
-    ensures device { (side : Named) → result ≡ Err (RunEnd.Device side) → Rose (W.faults world.old (part_of side)) (W.faults world.new (part_of side)) }
+    ensures device { (side : RefusedSide) → result ≡ Err (RunEnd.Device side) → Rose (W.faults world.old (part_at side)) (W.faults world.new (part_at side)) }
 {
     commits_end();
     plain_is_history();

@@ -6,7 +6,7 @@ ghost use Rattle.tm_world.specs.Faults.{Rose, NeverLess};
 ghost use Rattle.tm_run.specs.Ends.{SaysAll, SaysPrefix, Speaks};
 ghost use Rattle.tm_run.specs.Outcomes.{bad_image_line, bad_line, cause_word, side_word};
 ghost use Rattle.tm_run.specs.Pairs.{KeepsPair};
-ghost use Rattle.tm_run.specs.Readings.{IsOneOf};
+ghost use Rattle.tm_run.specs.Readings.{EndsAsOrCut};
 
 use crate::status::Status;
 use std::alloc::{AllocError, Global};
@@ -45,7 +45,7 @@ pub(crate) fn say_last<W: World>(world: &mut W, text: &str, status: Status) -> S
 /// Says which line is the first outside the grammar.
 #[tactic(auto, unfolding(crate::specs::Outcomes::bad_line))]
 pub(crate) fn say_bad_line<W: World>(alloc: Global, world: &mut W, line: u64) -> Status
-    ensures status { IsOneOf (Status.Script line) result }
+    ensures status { EndsAsOrCut (Status.Script line) result }
     ensures said { W.told → result ≡ Status.Script line → SaysAll (bad_line line) (now (W.log world.old)) (now (W.log world.new)) }
     ensures cut { W.told → SaysPrefix (bad_line line) (now (W.log world.old)) (now (W.log world.new)) }
     ensures silent { W.told → result ≡ Status.Memory → (now (W.log world.new)).said ≡ (now (W.log world.old)).said }
@@ -95,7 +95,7 @@ pub(crate) fn say_bad_image<W: World>(
     cause: Cause,
     place: u64,
 ) -> Status
-    ensures status { IsOneOf (Status.BadImage side cause place) result }
+    ensures status { EndsAsOrCut (Status.BadImage side cause place) result }
     ensures said { W.told → result ≡ Status.BadImage side cause place → SaysAll (bad_image_line side cause place) (now (W.log world.old)) (now (W.log world.new)) }
     ensures cut { W.told → SaysPrefix (bad_image_line side cause place) (now (W.log world.old)) (now (W.log world.new)) }
     ensures silent { W.told → result ≡ Status.Memory → (now (W.log world.new)).said ≡ (now (W.log world.old)).said }

@@ -1,10 +1,11 @@
 //! The pair of images, attached and synced.
 ghost use Rattle.std.specs.Prelude.{◌≡◌, ◌≢◌, ◌≤◌, ◌<◌, ℕ, IfOk, List, OnOk, Option, Err};
 ghost use Rattle.std.specs.Option.{ForSome};
-ghost use Rattle.tm_base.specs.declared.refused.Side.{Side as Named};
-ghost use Rattle.tm_machine.specs.Session.{IsSynced, part_of};
+ghost use Rattle.tm_base.specs.declared.refused.Side.{Side as RefusedSide};
+ghost use Rattle.tm_base.specs.Limits.{max_blocks};
+ghost use Rattle.tm_machine.specs.Session.{IsSynced};
 ghost use Rattle.tm_world.specs.Disk.{Image};
-ghost use Rattle.tm_world.specs.Faults.{NeverLess, Rose};
+ghost use Rattle.tm_world.specs.Faults.{NeverLess, Rose, part_at};
 ghost use Rattle.tm_world.specs.Log.{now, Passes};
 ghost use Rattle.tm_world.specs.Outside.{Outside};
 ghost use Rattle.tm_world.specs.declared.world.Side.TheVariants.{Volume as VolumeSide, Store as StoreSide};
@@ -17,16 +18,16 @@ use tm_world::{Failed, Part, Side as ImageSide, World};
 
 // Attaches both sides, the volume first. How many blocks each has, or which side failed.
 fn attach_pair<W: World>(world: &mut W, command: Command<'_>) -> Result<(u32, u32), Side>
-    requires create { ForSome command.create (λ n. (1 ≤ n) × (n ≤ 262144)) }
+    requires create { ForSome command.create (λ n. (1 ≤ n) × (n ≤ max_blocks)) }
     requires differ { command.volume.now ≢ command.store.now }
     ensures pair { W.told → let old = now (W.log world.old) in
         OnOk result (IsPair (image_at command.entry.volume.now command.entry.create old) (image_at command.entry.store.now command.entry.create old) (now (W.log world.new))) }
     ensures said { W.told → (now (W.log world.new)).said ≡ (now (W.log world.old)).said }
     ensures attached { W.told → OnOk result (IsAttached command.entry.volume.now command.entry.store.now command.entry.create (now (W.log world.old)) (now (W.log world.new))) }
     ensures any_moment { W.told → Passes (W.log world.old) (W.log world.new) (IsFinding command.entry.volume.now command.entry.store.now command.entry.create (now (W.log world.old))) }
-    ensures count { IfOk result (λ n. (W.blocks world.new VolumeSide ≡ n.0) × (n.0 ≤ 262144) × (W.blocks world.new StoreSide ≡ n.1) × (n.1 ≤ 262144)) }
+    ensures count { IfOk result (λ n. (W.blocks world.new VolumeSide ≡ n.0) × (n.0 ≤ max_blocks) × (W.blocks world.new StoreSide ≡ n.1) × (n.1 ≤ max_blocks)) }
     ensures never_less { NeverLess (W.faults world.old) (W.faults world.new) }
-    ensures fault { (side : Named) → result ≡ Err side → Rose (W.faults world.old (part_of side)) (W.faults world.new (part_of side)) }
+    ensures fault { (side : RefusedSide) → result ≡ Err side → Rose (W.faults world.old (part_at side)) (W.faults world.new (part_at side)) }
 {
     let volume = match world.attach(Part::Volume, command.volume, command.create) {
         Ok(blocks) => blocks,
@@ -47,7 +48,7 @@ fn sync_pair<W: World>(world: &mut W) -> Result<(), Side>
     ensures any_moment { W.told → (p q : List ℕ) (create : Option ℕ) (start : Outside) → IsAttached p q create start (now (W.log world.old)) → Passes (W.log world.old) (W.log world.new) (IsFinding p q create start) }
     ensures blocks { W.blocks world.new ≡ W.blocks world.old }
     ensures never_less { NeverLess (W.faults world.old) (W.faults world.new) }
-    ensures fault { (side : Named) → result ≡ Err side → Rose (W.faults world.old (part_of side)) (W.faults world.new (part_of side)) }
+    ensures fault { (side : RefusedSide) → result ≡ Err side → Rose (W.faults world.old (part_at side)) (W.faults world.new (part_at side)) }
 {
     match world.sync(ImageSide::Volume) {
         Ok(()) => {}
@@ -62,7 +63,7 @@ fn sync_pair<W: World>(world: &mut W) -> Result<(), Side>
 /// Attaches both sides, the volume first, and makes all that stands there stable. How many blocks
 /// each has, or which side failed.
 pub(crate) fn open_pair<W: World>(world: &mut W, command: Command<'_>) -> Result<(u32, u32), Side>
-    requires create { ForSome command.create (λ n. (1 ≤ n) × (n ≤ 262144)) }
+    requires create { ForSome command.create (λ n. (1 ≤ n) × (n ≤ max_blocks)) }
     requires differ { command.volume.now ≢ command.store.now }
     ensures pair { W.told → let old = now (W.log world.old) in
         OnOk result (IsPair (image_at command.entry.volume.now command.entry.create old) (image_at command.entry.store.now command.entry.create old) (now (W.log world.new))) }
@@ -70,9 +71,9 @@ pub(crate) fn open_pair<W: World>(world: &mut W, command: Command<'_>) -> Result
     ensures said { W.told → (now (W.log world.new)).said ≡ (now (W.log world.old)).said }
     ensures attached { W.told → OnOk result (IsAttached command.entry.volume.now command.entry.store.now command.entry.create (now (W.log world.old)) (now (W.log world.new))) }
     ensures any_moment { W.told → Passes (W.log world.old) (W.log world.new) (IsFinding command.entry.volume.now command.entry.store.now command.entry.create (now (W.log world.old))) }
-    ensures count { IfOk result (λ n. (W.blocks world.new VolumeSide ≡ n.0) × (n.0 ≤ 262144) × (W.blocks world.new StoreSide ≡ n.1) × (n.1 ≤ 262144)) }
+    ensures count { IfOk result (λ n. (W.blocks world.new VolumeSide ≡ n.0) × (n.0 ≤ max_blocks) × (W.blocks world.new StoreSide ≡ n.1) × (n.1 ≤ max_blocks)) }
     ensures never_less { NeverLess (W.faults world.old) (W.faults world.new) }
-    ensures fault { (side : Named) → result ≡ Err side → Rose (W.faults world.old (part_of side)) (W.faults world.new (part_of side)) }
+    ensures fault { (side : RefusedSide) → result ≡ Err side → Rose (W.faults world.old (part_at side)) (W.faults world.new (part_at side)) }
 {
     let blocks = attach_pair(world, command)?;
     sync_pair(world)?;

@@ -2,16 +2,15 @@
 ghost use Rattle.std.specs.Prelude.{◌≡◌, ◌⊎◌, ℕ, List, All, Err, IfOk};
 ghost use Rattle.tm_world.specs.declared.world.Part.{Part};
 ghost use Rattle.tm_world.specs.Log.{now, Passes};
-ghost use Rattle.tm_world.specs.Faults.{Rose, NeverLess};
-ghost use Rattle.tm_base.specs.declared.refused.Side.{Side as Named};
-ghost use Rattle.tm_machine.specs.Session.{part_of};
+ghost use Rattle.tm_world.specs.Faults.{Rose, NeverLess, part_at};
+ghost use Rattle.tm_base.specs.declared.refused.Side.{Side as RefusedSide};
 ghost use Rattle.tm_text.specs.Bounds.{IsValidLine};
 ghost use Rattle.tm_run.specs.Command.{texts, IsSomeCommand};
 ghost use Rattle.tm_run.specs.Scripts.{IsReading};
 ghost use Rattle.tm_run.specs.Claims.{KeepsBesideStore, KeepsBesideVolume, LeavesEnd, NamesNoLines, NamesNoPair, PassesPlain, RunsOver, StaysElsewhere, StaysFit};
 ghost use Rattle.tm_run.specs.Outcomes.{FitsStart, Outcome};
 ghost use Rattle.tm_run.specs.Readings.{ReadsLines};
-ghost use Rattle.tm_run.specs.Ends.{GaveOutcome, IsBefore, IsCut, IsDone, IsWhole, SaysPrefix};
+ghost use Rattle.tm_run.specs.Ends.{GaveOutcome, IsBefore, IsCut, IsDone, NotCutShort, SaysPrefix};
 ghost use Rattle.tm_run.specs.declared.status.Status.{Status};
 
 use crate::command::read_words;
@@ -43,7 +42,7 @@ pub fn run<W: World>(alloc: Global, words: &[String], world: &mut W) -> Status
     ensures history { W.told → RunsOver (texts words.now) (W.log world.old) (W.log world.new) result }
 
     // Over a pair that fits, or an image that is bad: a run that isn't cut short says what the plain machine says, or why an image is bad.
-    ensures outcome { W.told → FitsStart (texts words.now) (now (W.log world.old)) → IsWhole result → GaveOutcome (texts words.now) (now (W.log world.old)) (now (W.log world.new)) result }
+    ensures outcome { W.told → FitsStart (texts words.now) (now (W.log world.old)) → NotCutShort result → GaveOutcome (texts words.now) (now (W.log world.old)) (now (W.log world.new)) result }
 
     // A run that is cut short says a prefix of that.
     ensures prefix { W.told → FitsStart (texts words.now) (now (W.log world.old)) → (status : Status) (text : List ℕ) → Outcome (texts words.now) (now (W.log world.old)) status text
@@ -80,39 +79,14 @@ pub fn run<W: World>(alloc: Global, words: &[String], world: &mut W) -> Status
     ensures not_command { (IsSomeCommand (texts words.now) → ⊥) → (result ≡ Status.Usage) ⊎ (result ≡ Status.OutFault) }
     ensures script_fault { result ≡ Status.ScriptFault → Rose (W.faults world.old Part.Script) (W.faults world.new Part.Script) }
     ensures out_fault { result ≡ Status.OutFault → Rose (W.faults world.old Part.Out) (W.faults world.new Part.Out) }
-    ensures device { (side : Named) → result ≡ Status.Device side → Rose (W.faults world.old (part_of side)) (W.faults world.new (part_of side)) }
-    ensures never_less { NeverLess (W.faults world.old) (W.faults world.new) }
-{
-    plain_where_fits();
-    commits_end();
-    run_words(alloc, words, world)
-}
-
-// What `run` does. What `run` says besides, `left` and `any_moment`, follows from `history`.
-fn run_words<W: World>(alloc: Global, words: &[String], world: &mut W) -> Status
-    ensures history { W.told → RunsOver (texts words.now) (W.log world.old) (W.log world.new) result }
-    ensures outcome { W.told → FitsStart (texts words.now) (now (W.log world.old)) → IsWhole result → GaveOutcome (texts words.now) (now (W.log world.old)) (now (W.log world.new)) result }
-    ensures prefix { W.told → FitsStart (texts words.now) (now (W.log world.old)) → (status : Status) (text : List ℕ) → Outcome (texts words.now) (now (W.log world.old)) status text
-        → SaysPrefix text (now (W.log world.old)) (now (W.log world.new)) }
-    ensures fits { W.told → StaysFit (texts words.now) (W.log world.old) (W.log world.new) }
-    ensures elsewhere { W.told → StaysElsewhere (texts words.now) (W.log world.old) (W.log world.new) }
-    ensures shut_volume { W.told → KeepsBesideVolume (texts words.now) (W.log world.old) (W.log world.new) }
-    ensures shut_store { W.told → KeepsBesideStore (texts words.now) (W.log world.old) (W.log world.new) }
-    ensures images { W.told → NamesNoLines (texts words.now) (now (W.log world.old)) → Passes (W.log world.old) (W.log world.new) (λ o. o.stands ≡ (now (W.log world.old)).stands) }
-    ensures before { W.told → IsBefore result → Passes (W.log world.old) (W.log world.new) (λ o. o.stands ≡ (now (W.log world.old)).stands) }
-    ensures blocks { IsBefore result → W.blocks world.new ≡ W.blocks world.old }
-    ensures silent { W.told → NamesNoPair (texts words.now) (now (W.log world.old)) → IsCut result → (now (W.log world.new)).said ≡ (now (W.log world.old)).said }
-    ensures usage { result ≡ Status.Usage → IsSomeCommand (texts words.now) → ⊥ }
-    ensures not_command { (IsSomeCommand (texts words.now) → ⊥) → (result ≡ Status.Usage) ⊎ (result ≡ Status.OutFault) }
-    ensures script_fault { result ≡ Status.ScriptFault → Rose (W.faults world.old Part.Script) (W.faults world.new Part.Script) }
-    ensures out_fault { result ≡ Status.OutFault → Rose (W.faults world.old Part.Out) (W.faults world.new Part.Out) }
-    ensures device { (side : Named) → result ≡ Status.Device side → Rose (W.faults world.old (part_of side)) (W.faults world.new (part_of side)) }
+    ensures device { (side : RefusedSide) → result ≡ Status.Device side → Rose (W.faults world.old (part_at side)) (W.faults world.new (part_at side)) }
     ensures never_less { NeverLess (W.faults world.old) (W.faults world.new) }
 {
     one_outcome();
     volume_sides_read_as_one();
     plain_where_fits();
     plain_is_history();
+    commits_end();
     let Some(command) = read_words(words) else {
         return say_last(world, USAGE, Status::Usage);
     };

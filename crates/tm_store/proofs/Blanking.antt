@@ -4,6 +4,7 @@ use Rattle.std.proofs.Math.Bool.{Bool-set}
 use Rattle.std.proofs.Math.Logic.{∥∥₁_elim}
 use Rattle.std.proofs.lemmas.Bool.{cases_eq}
 use Rattle.std.specs.List.{All}
+use Rattle.tm_base.proofs.Facts.{all_one}
 use Rattle.tm_base.specs.IsName.{IsName}
 use Rattle.tm_codec.specs.Fields.{u8_text, short_text}
 use Rattle.tm_codec.proofs.Fields.{length-short_text}
@@ -23,12 +24,12 @@ use Rattle.tm_world.specs.Runs.{Runs}
 use Rattle.tm_world.specs.declared.world.Side.TheVariants.{Store}
 use Rattle.tm_world.proofs.Going.{Runs-weaker}
 use Rattle.tm_image.specs.Blank.{IsFirstPut, LacksMagic, LeavesNoneOr}
-use Rattle.tm_image.specs.Reads.{Reads, entries_of}
+use Rattle.tm_image.specs.Reads.{ReadsAsTable, entries_of}
 use Rattle.tm_image.specs.Room.{HasRoom, table_len}
 use Rattle.tm_image.specs.Seen.{IsSound, IsSettled, staged}
 use Rattle.tm_graph.specs.Nodes.{Nodes}
 use Rattle.tm_store_records.specs.declared.snapshot.Snapshot.{Snapshot}
-use Rattle.tm_store_records.specs.Heads.{Head, Heads, heads_of, head_at}
+use Rattle.tm_store_records.specs.Heads.{RecordHead, RecordHeads, heads_of, head_at}
 use Rattle.tm_blockmap.specs.Counts.{times}
 use Rattle.tm_store_records.specs.Found.{machine_in, nodes_in, snapshots_in}
 use Rattle.tm_store_records.specs.Rules.{IsGoodStore, is_record}
@@ -37,24 +38,11 @@ use Rattle.tm_store_records.specs.States.{StoreIs, LeavesNoneOrStore, snapshot_o
 use Rattle.tm_store_records.specs.Held.{Held, IsWhole, files_of}
 use Rattle.tm_store_records.proofs.Storing.{heads_are}
 use Rattle.tm_store_records.proofs.Leaving.{reads_store}
-use Rattle.tm_store_records.proofs.Onward.{at_other}
-use Rattle.tm_store.specs.Blank.{first_puts}
+use Rattle.tm_store_records.proofs.NextKeyLemmas.{at_other}
+use Rattle.tm_store.specs.Blank.{machine_puts}
+use Rattle.tm_nodes.proofs.Fields.{name_had}
 
 -- ---- names
-
-name_in : (name : List ℕ) (o : Option (List ℕ)) → machine_of (machine_text name) ≡ o → is_some o ≡ true → IsName name
-unfolding short_text u8_text
-name_in name None is some = absurd (let bad : false ≡ true = some in cc)
-name_in name (Some other) is some =
-    let read = machine_finds.is (machine_text name) other is in
-    let same : other ≡ name = sym (ap (drop 1) read.spelled) in
-    subst IsName same read.rules
-
--- a name keeps the rules of one
-pub name_had : (name : List ℕ) → ∥ IsName name ∥₁ → IsName name
-name_had name had =
-    name_in name (machine_of (machine_text name)) refl
-    (∥∥₁_elim had (Bool-set _ _) (λ is. ap is_some (machine_finds.again (machine_text name) name (record { rules = is; spelled = refl }))))
 
 -- ---- the record
 
@@ -64,14 +52,10 @@ machine_record name = record { meta = machine_text name; length = 0; blocks = []
 abbrev pub first_records : List ℕ → Records
 first_records name = (1, machine_record name) ∷ []
 
-all_one : {X : Type 0} (P : X → Type 0) (a : X) → P a → All P (a ∷ [])
-all_one P a pa zero d lt = pa
-all_one P a pa (suc k) d lt = absurd (omega arith)
-
 text_short : (name : List ℕ) → IsName name → length (machine_text name) ≤ 256
 text_short name is = omega (arith, length-short_text name, is.short)
 
-puts_rules : (name : List ℕ) → IsName name → All IsFirstPut (first_puts name)
+puts_rules : (name : List ℕ) → IsName name → All IsFirstPut (machine_puts name)
 puts_rules name is = all_one IsFirstPut _ (record { body = refl; key = omega arith; meta = omega (arith, text_short name is) })
 
 -- the table takes one block
@@ -85,22 +69,22 @@ module _ (name : List ℕ) (is : IsName name) where
   reads_name : machine_of (machine_text name) ≡ Some name
   reads_name = machine_finds.again (machine_text name) name (record { rules = is; spelled = refl })
 
-  abbrev first_head : Head
+  abbrev first_head : RecordHead
   first_head = record { meta = machine_text name; size = 0 }
 
-  head_found : (key : ℕ) (head : Head) → head_at key (heads_of (first_records name)) ≡ Some head → key ≡ 1
+  head_found : (key : ℕ) (head : RecordHead) → head_at key (heads_of (first_records name)) ≡ Some head → key ≡ 1
   head_found key head there = ⊎_elim
       (λ (same : key ≡ 1). same)
       (λ (other : key ≢ 1). absurd (let none : None ≡ Some head = sym (ap (λ b. cond b (Some first_head) None) (at_other key 1 other)) ∙ there in cc))
       (cases_eq key 1)
 
-  first_read : (key : ℕ) (head : Head) → head_at key (heads_of (first_records name)) ≡ Some head → is_record key head ≡ true
+  first_read : (key : ℕ) (head : RecordHead) → head_at key (heads_of (first_records name)) ≡ Some head → is_record key head ≡ true
   first_read key head there =
       let one = head_found key head there in
       let here : Some first_head ≡ Some head = subst (λ k. head_at k (heads_of (first_records name)) ≡ Some head) one there in
       let same : first_head ≡ head = cc in
       let reads : is_record 1 first_head ≡ true = ap (λ o. is_some o && true) reads_name in
-      subst (λ k. is_record k head ≡ true) (sym one) (subst (λ (h : Head). is_record 1 h ≡ true) same reads)
+      subst (λ k. is_record k head ≡ true) (sym one) (subst (λ (h : RecordHead). is_record 1 h ≡ true) same reads)
 
   good_first : IsGoodStore (heads_of (first_records name)) 1
   good_first key = record {
@@ -112,7 +96,7 @@ module _ (name : List ℕ) (is : IsName name) where
 
   pub first_is : (bytes : ℕ → List ℕ) → StoreIs (entries_of bytes (first_records name)) (new_store name)
   first_is bytes = record {
-    good = subst (λ (heads : Heads). IsGoodStore heads 1) (sym (heads_are (first_records name) bytes)) good_first;
+    good = subst (λ (heads : RecordHeads). IsGoodStore heads 1) (sym (heads_are (first_records name) bytes)) good_first;
     machine = reads_name;
     snapshots = refl;
   }
@@ -125,7 +109,7 @@ module _ (name : List ℕ) (is : IsName name) where
   leaves_first : (bytes : ℕ → List ℕ) (d : Disk) → LeavesNoneOr Store (entries_of bytes (first_records name)) (tag_of None 1) d → LeavesNoneOrStore (record { store = new_store name; running = None }) d
   leaves_first bytes d leaves image left = ⊎_elim
       (λ (lacks : LacksMagic image.bytes). inl lacks)
-      (λ (reads : Reads Store (entries_of bytes (first_records name)) (tag_of None 1) image).
+      (λ (reads : ReadsAsTable Store (entries_of bytes (first_records name)) (tag_of None 1) image).
       inr (reads_store image (entries_of bytes (first_records name)) (tag_of None 1) (record { store = new_store name; running = None }) reads refl first_fits (first_is bytes)))
       (leaves image left)
 
@@ -135,7 +119,7 @@ module _ (name : List ℕ) (is : IsName name) where
 
   -- ---- what was made of it in code
 
-  module _ (put : List Put) (tag : List ℕ) (puts : put ≡ first_puts name) (tag_is : tag ≡ tag_of None 1) where
+  module _ (put : List Put) (tag : List ℕ) (puts : put ≡ machine_puts name) (tag_is : tag ≡ tag_of None 1) where
     pub made_puts : All IsFirstPut put
     made_puts = subst (λ (ps : List Put). All IsFirstPut ps) (sym puts) (puts_rules name is)
 

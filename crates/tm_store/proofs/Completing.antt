@@ -31,19 +31,19 @@ use Rattle.tm_store_records.specs.Heads.{heads_of}
 use Rattle.tm_store_records.specs.Rules.{IsGoodStore}
 use Rattle.tm_store_records.specs.Tags.{FitsTag, tag_of}
 use Rattle.tm_store_records.specs.States.{StoredStore, StoreIs, LeavesStore, files_in, snapshot_on}
-use Rattle.tm_store_records.specs.Held.{Held, IsWhole, files_of, store_on, stored_on}
-use Rattle.tm_store_records.specs.Built.{IsBuilt, IsMark, completed, snapshot_built}
+use Rattle.tm_store_records.specs.Held.{Held, IsWhole, files_of, store_on, store_stored_on}
+use Rattle.tm_store_records.specs.Built.{IsBuilt, IsMark, store_completed, snapshot_built}
 use Rattle.tm_store_records.proofs.Leaving.{leaves_store}
 use Rattle.tm_store_records.proofs.Linking.{short_list}
-use Rattle.tm_store_records.proofs.Onward.{lt_true, lt_false}
+use Rattle.tm_store_records.proofs.NextKeyLemmas.{lt_true, lt_false}
 use Rattle.tm_store_records.proofs.Retagging.{staged_once}
 use Rattle.tm_store_records.proofs.Storing.{store_is, files_are}
-use Rattle.tm_store_growth.specs.Puts.{built_blocks}
-use Rattle.tm_store_growth.specs.Completing.{count_after, need_after, after_complete, complete_refusal, unless}
-use Rattle.tm_store_growth.specs.Growth.{AreGrown, ArePuts, MayComplete, puts_of, records_after}
+use Rattle.tm_snapshot.specs.Puts.{built_blocks}
+use Rattle.tm_snapshot.specs.Completing.{count_after, need_after, after_complete, complete_refusal, unless_refusal}
+use Rattle.tm_snapshot.specs.Growth.{AreGrown, ArePuts, MayComplete, puts_of, records_after}
 use Rattle.tm_store.specs.Joining.{joined}
-use Rattle.tm_store.proofs.Blanking.{name_had}
 use Rattle.tm_store.proofs.Unstaging.{left_of, taken_out}
+use Rattle.tm_nodes.proofs.Fields.{name_had}
 
 -- ---- before
 
@@ -136,16 +136,16 @@ module _ (h : Held) (built : Built) (date : ℕ) (volume : List ℕ) (id : ℕ) 
   next_fits : FitsTag None (h.number + 1)
   next_fits = let low = (may.whole.runs date may.runs).1.number in record { date = tt; least = omega arith; most = omega (arith, low) }
 
-  pub run_completed : (bytes : ℕ → List ℕ) (l0 l1 : Log) → complete_refusal h built date volume id mark ≡ None → StoreIs (entries_of bytes S) (completed h built date volume id mark bytes)
+  pub run_completed : (bytes : ℕ → List ℕ) (l0 l1 : Log) → complete_refusal h built date volume id mark ≡ None → StoreIs (entries_of bytes S) (store_completed h built date volume id mark bytes)
       → Runs Store (LeavesOneOf Store (entries_of bytes k.image.records) k.image.root.tag (entries_of bytes (changed [] ps k.image.records)) (tag_of None (k.number + 1))) l0 l1
-      → Runs Store (LeavesStore (stored_on h bytes) (after_complete h built date volume id mark bytes)) l0 l1
+      → Runs Store (LeavesStore (store_stored_on h bytes) (after_complete h built date volume id mark bytes)) l0 l1
   run_completed bytes l0 l1 none stored runs =
       let here : Runs Store (LeavesOneOf Store (entries_of bytes h.image.records) h.image.root.tag (entries_of bytes S) (tag_of None (h.number + 1))) l0 l1
       = subst (λ (x : Seen × Records × ℕ). Runs Store (LeavesOneOf Store (entries_of bytes x.0.records) x.0.root.tag (entries_of bytes x.1) (tag_of None (x.2 + 1))) l0 l1) (λ i. (same_image i, records_are i, same_number i)) runs in
-      let next : StoredStore = record { store = completed h built date volume id mark bytes; running = None } in
-      let after : after_complete h built date volume id mark bytes ≡ next = ap (λ o. unless o (stored_on h bytes) next) none in
-      subst (λ (t : StoredStore). Runs Store (LeavesStore (stored_on h bytes) t) l0 l1) (sym after)
-      (Runs-weaker Store _ _ l0 l1 (λ d. leaves_store (entries_of bytes h.image.records) (entries_of bytes S) h.image.root.tag (tag_of None (h.number + 1)) (stored_on h bytes) next
+      let next : StoredStore = record { store = store_completed h built date volume id mark bytes; running = None } in
+      let after : after_complete h built date volume id mark bytes ≡ next = ap (λ o. unless_refusal o (store_stored_on h bytes) next) none in
+      subst (λ (t : StoredStore). Runs Store (LeavesStore (store_stored_on h bytes) t) l0 l1) (sym after)
+      (Runs-weaker Store _ _ l0 l1 (λ d. leaves_store (entries_of bytes h.image.records) (entries_of bytes S) h.image.root.tag (tag_of None (h.number + 1)) (store_stored_on h bytes) next
       may.whole.tag may.whole.fits (store_is h bytes may.whole) refl next_fits stored Store refl d) here)
 
   -- ---- what stands afterwards
@@ -176,12 +176,12 @@ module _ (h : Held) (built : Built) (date : ℕ) (volume : List ℕ) (id : ℕ) 
     staged_after = ap (λ (q : Held). q.staged) same
 
     pub state_after : (old new : ℕ → List ℕ)
-        → map (snapshot_on (files_of S old) (grown h.nodes built.nodes built.root)) (h.snapshots ++ s ∷ []) ≡ (completed h built date volume id mark old).snapshots
-        → entries_of new n.image.records ≡ entries_of old n.image.records → store_on n new ≡ completed h built date volume id mark old
+        → map (snapshot_on (files_of S old) (grown h.nodes built.nodes built.root)) (h.snapshots ++ s ∷ []) ≡ (store_completed h built date volume id mark old).snapshots
+        → entries_of new n.image.records ≡ entries_of old n.image.records → store_on n new ≡ store_completed h built date volume id mark old
     state_after old new are data_same =
         let files : files_of n.image.records new ≡ files_of S old
         = sym (files_are n.image.records new) ∙ ap files_in data_same ∙ files_are n.image.records old ∙ ap (λ (es : Records). files_of es old) grown_records in
-        let snapshots : map (snapshot_on (files_of n.image.records new) n.nodes) n.snapshots ≡ (completed h built date volume id mark old).snapshots
+        let snapshots : map (snapshot_on (files_of n.image.records new) n.nodes) n.snapshots ≡ (store_completed h built date volume id mark old).snapshots
         = (λ i. map (snapshot_on (files i) (nodes_after i)) (snapshots_after i)) ∙ are in
         λ i. record { machine = machine_after i; number = number_after i; snapshots = snapshots i }
 

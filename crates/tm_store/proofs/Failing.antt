@@ -5,23 +5,23 @@ use Rattle.tm_image.specs.Blank.{LacksMagic}
 use Rattle.tm_image.specs.Laws as image_laws
 use Rattle.tm_image.specs.Laws.{FailsOrLacks, OneFailure, OneReading, ReadsOrLacks}
 use Rattle.tm_image.specs.Load.{Fails}
-use Rattle.tm_image.specs.Reads.{Entries, Reads}
+use Rattle.tm_image.specs.Reads.{Entries, ReadsAsTable}
 use Rattle.tm_world.specs.Disk.{Image}
 use Rattle.tm_world.specs.declared.cause.Cause.{Cause}
 use Rattle.tm_world.specs.declared.cause.Cause.TheVariants.{Slot, Chain, Table, Pages, Block, Room, Record, Spent}
 use Rattle.tm_world.specs.declared.world.Side.TheVariants.{Store}
-use Rattle.tm_store_records.specs.Heads.{Heads, heads_in}
-use Rattle.tm_store_records.specs.Rules.{IsLeastBad}
-use Rattle.tm_store_records.specs.States.{StoredStore, StoreFails, StoreReads, ReadsBad}
+use Rattle.tm_store_records.specs.Heads.{RecordHeads, heads_in}
+use Rattle.tm_store_records.specs.Rules.{IsLeastBadKey}
+use Rattle.tm_store_records.specs.States.{StoredStore, StoreFails, StoreReads, ReadsAsBadStore}
 use Rattle.tm_store_records.specs.Tags.{tag_of, FitsTag}
 use Rattle.tm_store_records.proofs.Standing.{one_tag}
-use Rattle.tm_store.specs.Sides.{OneStoreFailure, ReadsOrFails}
+use Rattle.tm_store.specs.Sides.{OneStoreFailure, StoreReadsOrFails}
 use Rattle.tm_store.proofs.Siding.{lacks_now}
 
 -- a step of the image's reading fails, or a record's
 record IsLate (image : Image) (cause : Cause) (place : ℕ) : Type 0 where
   cause_is : cause ≡ Record
-  bad : ReadsBad image place
+  bad : ReadsAsBadStore image place
 
 split : (image : Image) (cause : Cause) (place : ℕ) → StoreFails image cause place → Fails Store image.count image.bytes cause place ⊎ IsLate image cause place
 split image Slot place f = inl f
@@ -33,7 +33,7 @@ split image Room place f = inl f
 split image Record place f = inr (record { cause_is = refl; bad = f })
 split image Spent place f = absurd f
 
-least_once : (heads : Heads) (number place place2 : ℕ) → IsLeastBad heads number place → IsLeastBad heads number place2 → place2 ≡ place
+least_once : (heads : RecordHeads) (number place place2 : ℕ) → IsLeastBadKey heads number place → IsLeastBadKey heads number place2 → place2 ≡ place
 least_once heads number place place2 f g = ⊎_elim
     (λ (lt : place < place2). absurd (f.bad (g.below place lt)))
     (λ (le : place2 ≤ place). ⊎_elim
@@ -44,12 +44,12 @@ least_once heads number place place2 f g = ⊎_elim
 
 module _ (reading : OneReading) (image : Image) (few : image.count ≤ 262144) where
   -- the key that is wrong, by other entries that the image stands for
-  moved : (entries : Entries) (running : Option ℕ) (number place : ℕ) → FitsTag running number → Reads Store entries (tag_of running number) image → ReadsBad image place
-      → IsLeastBad (heads_in entries) number place
+  moved : (entries : Entries) (running : Option ℕ) (number place : ℕ) → FitsTag running number → ReadsAsTable Store entries (tag_of running number) image → ReadsAsBadStore image place
+      → IsLeastBadKey (heads_in entries) number place
   moved entries running number place fits reads f =
       let both = reading Store entries f.entries (tag_of running number) (tag_of f.running f.number) image few reads f.reads in
       let tags = one_tag f.running running f.number number f.fits fits both.1 in
-      subst (λ (n : ℕ). IsLeastBad (heads_in entries) n place) tags.1 (subst (λ (es : Entries). IsLeastBad (heads_in es) f.number place) both.0 f.least)
+      subst (λ (n : ℕ). IsLeastBadKey (heads_in entries) n place) tags.1 (subst (λ (es : Entries). IsLeastBadKey (heads_in es) f.number place) both.0 f.least)
 
   both_late : (cause cause2 : Cause) (place place2 : ℕ) → IsLate image cause place → IsLate image cause2 place2 → (cause2 ≡ cause) × (place2 ≡ place)
   both_late cause cause2 place place2 f g =
@@ -83,7 +83,7 @@ pub one_store_failure : OneReading → OneFailure → image_laws.ReadsOrFails �
 one_store_failure reading failure whole image cause cause2 place place2 few f g =
     one_failure reading image few failure whole cause cause2 place place2 (split image cause place f) (split image cause2 place2 g)
 
-pub reads_or_fails : OneReading → image_laws.ReadsOrFails → FailsOrLacks → ReadsOrLacks → ReadsOrFails
+pub reads_or_fails : OneReading → image_laws.ReadsOrFails → FailsOrLacks → ReadsOrLacks → StoreReadsOrFails
 reads_or_fails reading whole checked formatted image None cause place many few reads f =
     unread checked formatted image cause place (lacks_now image.count image.bytes many reads) (split image cause place f)
 reads_or_fails reading whole checked formatted image (Some s) cause place many few reads f =

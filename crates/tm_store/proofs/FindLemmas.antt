@@ -21,8 +21,8 @@ use Rattle.tm_store_records.specs.Found.{snapshots_in, snapshot_key}
 use Rattle.tm_store_records.specs.Rules.{is_folder_node}
 use Rattle.tm_store_records.specs.States.{labelled_on, snapshot_on}
 use Rattle.tm_store_records.specs.Held.{Held, IsWhole, files_of, store_on}
-use Rattle.tm_store.specs.Finding.{dated, held_at, held_under, of_volume, LeadsTo, Looks}
-use Rattle.tm_store.proofs.Lasts.{last_is}
+use Rattle.tm_store.specs.Finding.{snapshot_dated, held_at, held_under, of_volume, WalkLeadsTo, Looks}
+use Rattle.tm_base.proofs.Facts.{last_is}
 use Rattle.tm_store.proofs.Looking.{item_of, labelled_at, walks_as, tree_ends}
 
 last_mapped : {X Y : Type 0} (f : X → Y) (o : Option X) (xs : List X) → last_or (option_map f o) (map f xs) ≡ option_map f (last_or o xs)
@@ -47,7 +47,7 @@ find_there date (x ∷ xs) s is = by_test (x.date == date) (find_there date xs s
     by_test true rest is = (0, is)
     by_test false rest is = let found = rest is in (suc found.0, found.1)
 
-dated_there : (xs : List Snapshot) (at : Option ℕ) (s : Snapshot) → dated xs at ≡ Some s → (place : ℕ) × (slice_get xs place ≡ Some s)
+dated_there : (xs : List Snapshot) (at : Option ℕ) (s : Snapshot) → snapshot_dated xs at ≡ Some s → (place : ℕ) × (slice_get xs place ≡ Some s)
 dated_there xs None s is = (length xs - 1, last_is xs ∙ is)
 dated_there xs (Some date) s is = find_there date xs s is
 
@@ -55,16 +55,16 @@ dated_there xs (Some date) s is = find_there date xs s is
 under_there : (own : List ℕ) (xs : List Snapshot) (machine : List ℕ) (at : Option ℕ) (volume : List ℕ) (s : Snapshot) → held_under own xs machine at volume ≡ Some s → (place : ℕ) × (slice_get xs place ≡ Some s)
 under_there own xs machine at volume s is = by_machine (same_name machine own) is
   where
-    by_volume : (x : Snapshot) → dated xs at ≡ Some x → (b : Bool) → (if b then Some x else None) ≡ Some s → (place : ℕ) × (slice_get xs place ≡ Some s)
+    by_volume : (x : Snapshot) → snapshot_dated xs at ≡ Some x → (b : Bool) → (if b then Some x else None) ≡ Some s → (place : ℕ) × (slice_get xs place ≡ Some s)
     by_volume x d true is = dated_there xs at s (d ∙ is)
     by_volume x d false is = absurd (cc is)
 
-    by_dated : (o : Option Snapshot) → dated xs at ≡ o → of_volume volume o ≡ Some s → (place : ℕ) × (slice_get xs place ≡ Some s)
+    by_dated : (o : Option Snapshot) → snapshot_dated xs at ≡ o → of_volume volume o ≡ Some s → (place : ℕ) × (slice_get xs place ≡ Some s)
     by_dated None d is = absurd (cc is)
     by_dated (Some x) d is = by_volume x d (same_name volume x.volume) is
 
-    by_machine : (b : Bool) → of_volume volume (if b then dated xs at else None) ≡ Some s → (place : ℕ) × (slice_get xs place ≡ Some s)
-    by_machine true is = by_dated (dated xs at) refl is
+    by_machine : (b : Bool) → of_volume volume (if b then snapshot_dated xs at else None) ≡ Some s → (place : ℕ) × (slice_get xs place ≡ Some s)
+    by_machine true is = by_dated (snapshot_dated xs at) refl is
     by_machine false is = absurd (cc is)
 
 number_there : (g : Nodes) (r : ℕ) (p : Names) (n : ℕ) → number_at g r p ≡ Some n → is_some (node g n) ≡ true
@@ -83,7 +83,7 @@ module _ (h : Held) (bytes : ℕ → List ℕ) where
   abbrev files : ℕ → List ℕ
   files = files_of h.image.records bytes
 
-  by_is : (at : Option ℕ) → snapshot_by (store_on h bytes) at ≡ option_map (snapshot_on files h.nodes) (dated h.snapshots at)
+  by_is : (at : Option ℕ) → snapshot_by (store_on h bytes) at ≡ option_map (snapshot_on files h.nodes) (snapshot_dated h.snapshots at)
   by_is None = last_mapped (snapshot_on files h.nodes) None h.snapshots
   by_is (Some date) = find_mapped files h.nodes date h.snapshots
 
@@ -91,7 +91,7 @@ module _ (h : Held) (bytes : ℕ → List ℕ) where
   pub named_at : (machine : List ℕ) (at : Option ℕ) → snapshot_at (store_on h bytes) machine at ≡ option_map (snapshot_on files h.nodes) (held_at h.machine h.snapshots machine at)
   named_at machine at = by_machine (same_name machine h.machine)
     where
-      by_machine : (b : Bool) → (if b then snapshot_by (store_on h bytes) at else None) ≡ option_map (snapshot_on files h.nodes) (if b then dated h.snapshots at else None)
+      by_machine : (b : Bool) → (if b then snapshot_by (store_on h bytes) at else None) ≡ option_map (snapshot_on files h.nodes) (if b then snapshot_dated h.snapshots at else None)
       by_machine true = by_is at
       by_machine false = refl
 
@@ -136,10 +136,10 @@ module _ (h : Held) (bytes : ℕ → List ℕ) where
     pub node_there : (n : ℕ) → down h.nodes s.root path ≡ Ok n → is_some (node h.nodes n) ≡ true
     node_there n goes = number_there h.nodes s.root path n (numbered_at n goes)
 
-    leads_to : (n : ℕ) → down h.nodes s.root path ≡ Ok n → LeadsTo files h.nodes (rows_of (labelled_on files) h.nodes s.root) path n
+    leads_to : (n : ℕ) → down h.nodes s.root path ≡ Ok n → WalkLeadsTo files h.nodes (rows_of (labelled_on files) h.nodes s.root) path n
     leads_to n goes = by_node (node h.nodes n) refl (node_there n goes)
       where
-        by_node : (o : Option NodeRow) → node h.nodes n ≡ o → is_some o ≡ true → LeadsTo files h.nodes (rows_of (labelled_on files) h.nodes s.root) path n
+        by_node : (o : Option NodeRow) → node h.nodes n ≡ o → is_some o ≡ true → WalkLeadsTo files h.nodes (rows_of (labelled_on files) h.nodes s.root) path n
         by_node None e there = absurd (let bad : false ≡ true = there in cc)
         by_node (Some row) e there = record {
           row = row;

@@ -1,4 +1,4 @@
-mod Lasts
+mod Searching
 mod Unstaging
 mod Staging
 mod Blanking

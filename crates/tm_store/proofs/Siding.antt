@@ -10,11 +10,11 @@ use Rattle.tm_world.specs.declared.world.Side.TheVariants.{Store}
 use Rattle.tm_store_records.specs.Laws.{OneStoreReads}
 use Rattle.tm_store_records.specs.States.{StoredStore, StoreReads}
 use Rattle.tm_store_records.specs.Tags.{tag_of}
-use Rattle.tm_store.specs.Sides.{IsUnformattedImage, OneSide, BlankLeaves, BlankMayBeFormatted, NoneOrStore}
+use Rattle.tm_store.specs.Sides.{IsUnformattedStore, OneStoreSide, StoreBlankLeaves, StoreBlankMayBeFormatted, NoneOrStore}
 
 -- ---- a disk without an image
 
-pub blank_leaves : BlankLeaves
+pub blank_leaves : StoreBlankLeaves
 blank_leaves disk blank image left = ⊎_elim
     (λ (few : disk.count < 3). inl (omega (arith, few, left.count)))
     (λ (un : (named : ℕ) × IsUnformatted disk.bytes named).
@@ -30,10 +30,10 @@ lacks_now count bytes many un = ⊎_elim
     un
 
 -- and so the image is unformatted
-pub lacking : (image : Image) → LacksMagic image.bytes → IsUnformattedImage image
+pub lacking : (image : Image) → LacksMagic image.bytes → IsUnformattedStore image
 lacking image lacks = inr (named_by (image.bytes 0), record { selected = refl; lacks = lacks })
 
-pub may_be_formatted : BlankMayBeFormatted
+pub may_be_formatted : StoreBlankMayBeFormatted
 may_be_formatted disk blank many = record {
   lacks = lacks_now disk.count disk.bytes many blank.unformatted;
   selector_stable = blank.stable 0;
@@ -48,7 +48,7 @@ none_or s disk leaves image left = ⊎_elim
 
 -- ---- one store
 
-read_and_not : ReadsOrLacks → (image : Image) (s : StoredStore) → IsUnformattedImage image → StoreReads image s → ⊥
+read_and_not : ReadsOrLacks → (image : Image) (s : StoredStore) → IsUnformattedStore image → StoreReads image s → ⊥
 read_and_not formatted image s not_formatted reads = ⊎_elim
     (λ (few : image.count < 3). let r = reads.reads in omega (arith, few, r.holds.count, r.good.room))
     (λ (un : (named : ℕ) × IsUnformatted image.bytes named).
@@ -56,7 +56,7 @@ read_and_not formatted image s not_formatted reads = ⊎_elim
     (subst (λ (n : ℕ). ¬ HasMagic (image.bytes n)) (sym (un.1).selected) (un.1).lacks))
     not_formatted
 
-pub one_side : OneStoreReads → ReadsOrLacks → OneSide
+pub one_side : OneStoreReads → ReadsOrLacks → OneStoreSide
 one_side one formatted image None None few a b = refl
 one_side one formatted image None (Some t) few a b = absurd (read_and_not formatted image t a b)
 one_side one formatted image (Some s) None few a b = absurd (read_and_not formatted image s b a)

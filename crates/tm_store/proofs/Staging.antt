@@ -16,7 +16,7 @@ use Rattle.tm_world.specs.declared.world.Side.{Side}
 use Rattle.tm_world.specs.declared.world.Side.TheVariants.{Store}
 use Rattle.tm_world.proofs.Going.{Runs-weaker}
 use Rattle.tm_store_records.specs.States.{LeavesOneStore}
-use Rattle.tm_store_records.specs.Held.{Held, IsWhole, stored_on}
+use Rattle.tm_store_records.specs.Held.{Held, IsWhole, store_stored_on}
 use Rattle.tm_store_records.proofs.Storing.{store_is}
 use Rattle.tm_store_records.proofs.Leaving.{leaves_one_store}
 use Rattle.tm_store_records.proofs.Retagging.{whole_again}
@@ -38,12 +38,12 @@ as_before h k image blocks view same lists = (λ i. record h { image = same i; s
 module _ (h : Held) (whole : IsWhole h) where
   -- a stop leaves the store as it was
   pub stage_run : (l0 l1 : Log) → Runs h.image.side (LeavesRead h.image.side (entries_of (disk h.image.side (now l0)).bytes h.image.records) h.image.root.tag) l0 l1
-      → Runs Store (LeavesOneStore (stored_on h (disk Store (now l0)).bytes)) l0 l1
+      → Runs Store (LeavesOneStore (store_stored_on h (disk Store (now l0)).bytes)) l0 l1
   stage_run l0 l1 runs =
       let bytes = (disk Store (now l0)).bytes in
       let here : Runs Store (LeavesRead Store (entries_of bytes h.image.records) h.image.root.tag) l0 l1
       = subst (λ (s : Side). Runs s (LeavesRead s (entries_of (disk s (now l0)).bytes h.image.records) h.image.root.tag) l0 l1) whole.side runs in
-      Runs-weaker Store _ _ l0 l1 (λ d. leaves_one_store (entries_of bytes h.image.records) h.image.root.tag (stored_on h bytes) whole.tag whole.fits (store_is h bytes whole) Store refl d) here
+      Runs-weaker Store _ _ l0 l1 (λ d. leaves_one_store (entries_of bytes h.image.records) h.image.root.tag (store_stored_on h bytes) whole.tag whole.fits (store_is h bytes whole) Store refl d) here
 
   -- the blocks that were staged are used
   pub used_before : (b : ℕ) → 0 < times b h.staged → 0 < slice_index h.image.used b

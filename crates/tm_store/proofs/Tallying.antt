@@ -13,7 +13,7 @@ use Rattle.tm_tree.specs.declared.node.NodeRow.{NodeRow}
 use Rattle.tm_store_records.specs.Heads.{heads_of}
 use Rattle.tm_store_records.specs.Found.{node_key, nodes_in}
 use Rattle.tm_store_records.specs.Held.{Held, IsWhole}
-use Rattle.tm_store_records.proofs.Onward.{Sorted}
+use Rattle.tm_store_records.proofs.NextKeyLemmas.{Sorted}
 use Rattle.tm_store_records.proofs.Placed.{at_place}
 use Rattle.tm_store.proofs.Recorded.{NodesAreFound, small_node}
 

@@ -5,6 +5,9 @@ use Rattle.tm_base.specs.declared.refused.Refused.TheVariants as refused
 use Rattle.tm_base.specs.declared.refused.LineFault.{LineFault}
 use Rattle.tm_base.specs.declared.refused.LineFault.TheVariants as fault
 use Rattle.tm_base.specs.declared.refused.Side.TheVariants.{Volume, Store}
+use Rattle.tm_world.specs.declared.world.Part.{Part}
+use Rattle.tm_world.specs.declared.world.Part.TheVariants as part
+use Rattle.tm_world.specs.Faults.{Rose}
 
 -- a fact for a refusal
 abbrev pub IfRefused : {A : Type 0} → Result A LineFault → (Refused → Type 0) → Type 0
@@ -21,6 +24,10 @@ OnFault (Err (fault.Fault Volume)) P = ⊥
 OnFault (Err (fault.Fault Store)) P = P
 OnFault (Err fault.Memory) P = Unit {0}
 
+-- a fault is one of the store's, and the count of that side's part rose
+abbrev pub BlamesStore : {A : Type 0} → Result A LineFault → (Part → ℕ) → (Part → ℕ) → Type 0
+BlamesStore result before after = OnFault result (Rose (before part.Store) (after part.Store))
+
 -- this holds after all answers but a fault
 abbrev pub UnlessFault : {A : Type 0} → Result A LineFault → Type 0 → Type 0
 UnlessFault (Ok a) P = P
@@ -36,11 +43,11 @@ OnRefusal (Err (fault.Fault side)) P = Unit {0}
 OnRefusal (Err fault.Memory) P = P
 
 -- the refusal Full with these numbers, of which the first is above the second
-abbrev pub IsFull : ℕ → ℕ → Refused → Type 0
-IsFull need free (refused.Full n f) = (n ≡ need) × (f ≡ free) × (free < need)
-IsFull need free _ = ⊥
+abbrev pub IsFullRefusal : ℕ → ℕ → Refused → Type 0
+IsFullRefusal need free (refused.Full n f) = (n ≡ need) × (f ≡ free) × (free < need)
+IsFullRefusal need free _ = ⊥
 
 -- the refusal Small
-abbrev pub IsSmall : Refused → Type 0
-IsSmall refused.Small = Unit {0}
-IsSmall _ = ⊥
+abbrev pub IsSmallRefusal : Refused → Type 0
+IsSmallRefusal refused.Small = Unit {0}
+IsSmallRefusal _ = ⊥

@@ -5,5 +5,5 @@ use Rattle.tm_records.specs.declared.record.Body.TheVariants.{Empty}
 use Rattle.tm_records.specs.declared.record.Put.{Put}
 
 -- the machine's, without data
-abbrev pub first_puts : List ℕ → List Put
-first_puts machine = record { key = 1; meta = machine_text machine; body = Empty } ∷ []
+abbrev pub machine_puts : List ℕ → List Put
+machine_puts machine = record { key = 1; meta = machine_text machine; body = Empty } ∷ []

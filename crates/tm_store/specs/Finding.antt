@@ -28,13 +28,13 @@ use Rattle.tm_store.specs.declared.finding.Kind.TheVariants as kind
 
 -- ---- snapshots
 
-abbrev pub dated : List Snapshot → Option ℕ → Option Snapshot
-dated snapshots None = last_or None snapshots
-dated snapshots (Some date) = find (λ s. s.date == date) snapshots
+abbrev pub snapshot_dated : List Snapshot → Option ℕ → Option Snapshot
+snapshot_dated snapshots None = last_or None snapshots
+snapshot_dated snapshots (Some date) = find (λ s. s.date == date) snapshots
 
 -- the snapshot under a machine's name with this date, or the last one where no date is given
 abbrev pub held_at : List ℕ → List Snapshot → List ℕ → Option ℕ → Option Snapshot
-held_at own snapshots machine date = if same_name machine own then dated snapshots date else None
+held_at own snapshots machine date = if same_name machine own then snapshot_dated snapshots date else None
 
 abbrev pub of_volume : List ℕ → Option Snapshot → Option Snapshot
 of_volume volume None = None
@@ -57,32 +57,33 @@ NamedUnder = (h : Held) (bytes : ℕ → List ℕ) (machine : List ℕ) (date : 
 -- ---- items
 
 -- the walk down the path comes to this node: its row, what stands at the path, and what the walk answers
-pub record LeadsTo (files : ℕ → List ℕ) (g : Nodes) (t : LabelledTree) (path : Names) (n : ℕ) : Type 0 where
+pub record WalkLeadsTo (files : ℕ → List ℕ) (g : Nodes) (t : LabelledTree) (path : Names) (n : ℕ) : Type 0 where
   pub row : NodeRow
   pub is : node g n ≡ Some row
   pub stands : at t path ≡ Some (labelled_on files n row)
   pub walks : walk (bare t) path ≡ Ok (item_on (files n) row.body)
 
--- what a look at a path in a snapshot answers: the node that stands there, NoSnapshot, or why the walk fails
+-- what a look at a path in a snapshot answers: the node that stands there, NoSnapshot, or why the walk fails; it takes
+-- neither memory nor the device, so it fails in no other way
 abbrev pub Looks : (ℕ → List ℕ) → Nodes → Option StoredSnapshot → Names → Result Found LineFault → Type 0
 Looks files g None path (Ok found) = ⊥
 Looks files g None path (Err (fault.Refused why)) = why ≡ NoSnapshot
 Looks files g None path (Err (fault.Fault side)) = ⊥
-Looks files g None path (Err fault.Memory) = Unit {0}
-Looks files g (Some s) path (Ok found) = (found.date ≡ s.date) × LeadsTo files g s.tree path found.node
+Looks files g None path (Err fault.Memory) = ⊥
+Looks files g (Some s) path (Ok found) = (found.date ≡ s.date) × WalkLeadsTo files g s.tree path found.node
 Looks files g (Some s) path (Err (fault.Refused why)) = walk (bare s.tree) path ≡ Err why
 Looks files g (Some s) path (Err (fault.Fault side)) = ⊥
-Looks files g (Some s) path (Err fault.Memory) = Unit {0}
+Looks files g (Some s) path (Err fault.Memory) = ⊥
 
 -- ---- nodes
 
-abbrev pub leaf_kind : LeafRow → Kind
-leaf_kind (leaf.File attrs stamp size) = kind.File
-leaf_kind (leaf.Link attrs stamp target) = kind.Link
+abbrev pub kind_of_leaf : LeafRow → Kind
+kind_of_leaf (leaf.File attrs stamp size) = kind.File
+kind_of_leaf (leaf.Link attrs stamp target) = kind.Link
 
-abbrev pub body_kind : NodeBody → Kind
-body_kind (body.Folder attrs entries) = kind.Folder
-body_kind (body.Leaf leaf) = leaf_kind leaf
+abbrev pub kind_of_body : NodeBody → Kind
+kind_of_body (body.Folder attrs entries) = kind.Folder
+kind_of_body (body.Leaf leaf) = kind_of_leaf leaf
 
 abbrev pub stat_of : NodeRow → Stat
-stat_of row = record { kind = body_kind row.body; label = row.label; links = row.links; length = node_length row }
+stat_of row = record { kind = kind_of_body row.body; label = row.label; links = row.links; length = node_length row }

@@ -1,37 +1,33 @@
 //! A new store.
 ghost use Rattle.std.specs.Prelude.{◌≡◌, ◌≤◌, ◌<◌, ℕ, List, [], None, OnOk, IfOk, length};
+ghost use Rattle.tm_base.specs.Limits.{max_blocks, min_blocks};
 ghost use Rattle.tm_base.specs.IsName.{IsName};
-ghost use Rattle.tm_world.specs.Outside.{disk, part_of};
+ghost use Rattle.tm_world.specs.Outside.{disk};
 ghost use Rattle.tm_world.specs.Log.{now};
 ghost use Rattle.tm_world.specs.Runs.{Runs};
-ghost use Rattle.tm_world.specs.Faults.{NeverLess, Rose};
+ghost use Rattle.tm_world.specs.Faults.{NeverLess};
 ghost use Rattle.tm_tree.specs.States.{new_store};
 ghost use Rattle.tm_image.specs.Blank.{IsBlank};
 ghost use Rattle.tm_image.specs.Seen.{Stands};
 ghost use Rattle.tm_store_records.specs.States.{LeavesNoneOrStore};
 ghost use Rattle.tm_store_records.specs.Held.{IsWhole, store_on};
-ghost use Rattle.tm_store.specs.Answers.{IfRefused, IsSmall, OnFault, OnRefusal};
-ghost use Rattle.tm_store.specs.Blank.{first_puts};
+ghost use Rattle.tm_store.specs.Answers.{IfRefused, IsSmallRefusal, BlamesStore, OnRefusal};
+ghost use Rattle.tm_store.specs.Blank.{machine_puts};
 
 use crate::Store;
 use std::alloc::{AllocError, Global};
+use tm_base::limits::MIN_BLOCKS;
 use tm_base::{LineFault, Name, Refused};
 use tm_graph::Graph;
 use tm_image::{Image, ImageError};
 use tm_nodes::machine_meta;
 use tm_records::{Body, Put};
-use tm_store_records::{SnapshotList, write_tag};
+use tm_store_records::{MACHINE_KEY, SnapshotList, write_tag};
 use tm_world::{Side, World};
 
-/// The fewest blocks of a new store.
-const FEWEST_BLOCKS: u32 = 8;
-
-/// The key of the machine's record.
-const MACHINE_KEY: u64 = 1;
-
 /// The machine's record alone, without data.
-fn first_puts(alloc: Global, machine: &Name) -> Result<Vec<Put>, AllocError>
-    ensures { IfOk result (λ put. put.items ≡ first_puts machine.now) }
+fn machine_puts(alloc: Global, machine: &Name) -> Result<Vec<Put>, AllocError>
+    ensures { IfOk result (λ put. put.items ≡ machine_puts machine.now) }
 {
     let meta = match machine_meta(alloc, machine) {
         Ok(meta) => meta,
@@ -69,7 +65,7 @@ impl Store {
         machine: &Name,
     ) -> Result<Store, LineFault>
         requires count { W.blocks world.old Side.Store ≡ blocks }
-        requires small { blocks ≤ 262144 }
+        requires small { blocks ≤ max_blocks }
         requires blank { W.told → 3 ≤ blocks → IsBlank (disk Side.Store (now (W.log world.old))) }
         ensures any_moment { W.told → Runs Side.Store (LeavesNoneOrStore (record { store = new_store machine.now; running = None })) (W.log world.old) (W.log world.new) }
         ensures stands { W.told → IfOk result (λ s. Stands s.image (disk Side.Store (now (W.log world.new)))) }
@@ -78,17 +74,17 @@ impl Store {
         ensures empty { IfOk result (λ s. (s.nodes ≡ []) × (s.snapshots ≡ [])) }
         ensures size { IfOk result (λ s. length s.image.used ≡ blocks) }
         ensures whole { IfOk result IsWhole }
-        ensures refused { IfRefused result (λ why. IsSmall why × (blocks < 8)) }
-        ensures fits { OnOk result (8 ≤ blocks) }
+        ensures refused { IfRefused result (λ why. IsSmallRefusal why × (blocks < min_blocks)) }
+        ensures fits { OnOk result (min_blocks ≤ blocks) }
         ensures err { OnRefusal result (world.new ≡ world.old) }
         ensures blocks { W.blocks world.new ≡ W.blocks world.old }
         ensures never_less { NeverLess (W.faults world.old) (W.faults world.new) }
-        ensures fault { OnFault result (Rose (W.faults world.old (part_of Side.Store)) (W.faults world.new (part_of Side.Store))) }
+        ensures fault { BlamesStore result (W.faults world.old) (W.faults world.new) }
     {
-        if blocks < FEWEST_BLOCKS {
+        if blocks < MIN_BLOCKS {
             return Err(LineFault::Refused(Refused::Small));
         }
-        let put = first_puts(alloc, machine)?;
+        let put = machine_puts(alloc, machine)?;
         let name = same_name(machine)?;
         let tag = write_tag(None, 1);
         let image = match Image::blank(alloc, world, Side::Store, blocks, put, tag) {

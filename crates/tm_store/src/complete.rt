@@ -8,28 +8,27 @@ ghost use Rattle.tm_world.specs.Faults.{NeverLess, Rose};
 ghost use Rattle.tm_blockmap.specs.Counts.{times};
 ghost use Rattle.tm_image.specs.Seen.{IsSettled, IsSound, Stands, staged};
 ghost use Rattle.tm_image.specs.Reads.{LeavesOneOf, entries_of};
-ghost use Rattle.tm_image.specs.Room.{AreStaged, HasRoom, free_of, need_of, table_len};
-ghost use Rattle.tm_image.specs.Commit.{IsPut, brought_by, changed, released_by};
+ghost use Rattle.tm_image.specs.Room.{AreStaged, HasRoom, free_of};
+ghost use Rattle.tm_image.specs.Commit.{IsPut, brought_by, changed};
 ghost use Rattle.tm_store_records.specs.Tags.{FitsTag, tag_of};
 ghost use Rattle.tm_store_records.specs.States.{LeavesStore};
-ghost use Rattle.tm_store_records.specs.Held.{IsWhole, store_on, stored_on};
-ghost use Rattle.tm_store_records.specs.Built.{IsBuilt, IsMark, completed};
-ghost use Rattle.tm_store.specs.Answers.{IfRefused, OnFault, OnRefusal};
-ghost use Rattle.tm_store_growth.specs.Completing.{IsCompleted, after_complete, complete_refusal};
+ghost use Rattle.tm_store_records.specs.Held.{IsWhole, store_on, store_stored_on};
+ghost use Rattle.tm_store_records.specs.Built.{IsBuilt, IsMark, store_completed};
+ghost use Rattle.tm_store.specs.Answers.{IfRefused, BlamesStore, OnRefusal};
+ghost use Rattle.tm_store.specs.Joining.{need_to_put};
+ghost use Rattle.tm_snapshot.specs.Completing.{IsCompleted, after_complete, complete_refusal};
 
 use crate::Store;
 use crate::blank::same_name;
 use crate::join::Joined;
-use tm_base::{LineFault, Name, Refused, Side as Named};
+use tm_base::limits::MAX_NODES;
+use tm_base::{LineFault, Name, Refused, Side as RefusedSide};
 use tm_graph::{Built, grown_reads};
 use tm_image::{Changes, ImageError};
-use tm_store_growth::{built_may_grow, need_is_told, puts_fit, puts_grow};
+use tm_snapshot::{built_may_grow, need_is_told, puts_fit, puts_grow};
 use tm_store_records::{Snapshot, held_is_store, write_tag};
 use tm_tree::Mark;
 use tm_world::{Side, World};
-
-/// The most nodes that a store has.
-const MOST_NODES: u64 = 262_144;
 
 impl Store {
     /// Finishes the backup that runs: a new snapshot has the tree that was built, and no date runs
@@ -55,10 +54,10 @@ impl Store {
         requires count { length self.old.image.used ≡ W.blocks world.old Side.Store }
         requires stands { W.told → Stands self.old.image (disk Side.Store (now (W.log world.old))) }
         ensures any_moment { W.told → let old = (disk Side.Store (now (W.log world.old))).bytes in
-            IfSome self.old.running (λ date. Runs Side.Store (LeavesStore (stored_on self.old old) (after_complete self.old built date volume.now id mark.now old)) (W.log world.old) (W.log world.new)) }
+            IfSome self.old.running (λ date. Runs Side.Store (LeavesStore (store_stored_on self.old old) (after_complete self.old built date volume.now id mark.now old)) (W.log world.old) (W.log world.new)) }
         ensures stands { W.told → OnOk result (Stands self.new.image (disk Side.Store (now (W.log world.new)))) }
         ensures state { W.told → let old = (disk Side.Store (now (W.log world.old))).bytes in
-            OnOk result (IfSome self.old.running (λ date. store_on self.new (disk Side.Store (now (W.log world.new))).bytes ≡ completed self.old built date volume.now id mark.now old)) }
+            OnOk result (IfSome self.old.running (λ date. store_on self.new (disk Side.Store (now (W.log world.new))).bytes ≡ store_completed self.old built date volume.now id mark.now old)) }
         ensures parts { OnOk result (IfSome self.old.running (λ date. IsCompleted self.old self.new built date volume.now id mark.now)) }
         ensures size { OnOk result (length self.new.image.used ≡ length self.old.image.used) }
         ensures whole { OnOk result (IsWhole self.new) }
@@ -68,7 +67,7 @@ impl Store {
         ensures untouched { OnRefusal result (world.new ≡ world.old) }
         ensures blocks { W.blocks world.new ≡ W.blocks world.old }
         ensures never_less { NeverLess (W.faults world.old) (W.faults world.new) }
-        ensures fault { OnFault result (Rose (W.faults world.old (part_of Side.Store)) (W.faults world.new (part_of Side.Store))) }
+        ensures fault { BlamesStore result (W.faults world.old) (W.faults world.new) }
     {
         built_may_grow();
         puts_grow();
@@ -77,7 +76,7 @@ impl Store {
         grown_reads();
         held_is_store();
         let count = self.count_with(&built);
-        if count > MOST_NODES {
+        if count > MAX_NODES {
             let count = u128::from(count);
             return Err(LineFault::Refused(Refused::TooMany { count }));
         }
@@ -96,7 +95,7 @@ impl Store {
         let joined = self.join(built, snapshot)?;
         match self.commit_joined(world, joined) {
             Ok(()) => Ok(()),
-            Err(ImageError::Fault) => Err(LineFault::Fault(Named::Store)),
+            Err(ImageError::Fault) => Err(LineFault::Fault(RefusedSide::Store)),
             Err(ImageError::Full { need, free }) => {
                 self.part(root)?;
                 Err(LineFault::Refused(Refused::Full { need, free }))
@@ -134,9 +133,9 @@ impl Store {
         ensures err { OnErr result (result ≢ Err ImageError.Fault → self.new ≡ self.old) }
         ensures untouched { OnErr result (result ≢ Err ImageError.Fault → world.new ≡ world.old) }
         ensures full { (need free : ℕ) → result ≡ Err (ImageError.Full need free) → (free < need) × (free ≡ free_of self.old.image)
-            × (need ≡ need_of (table_len self.old.image.records) (table_len (changed [] joined.put.items self.old.image.records)) (released_by [] joined.put.items self.old.image.records)) }
-        ensures fits { OnOk result (need_of (table_len self.old.image.records) (table_len (changed [] joined.put.items self.old.image.records)) (released_by [] joined.put.items self.old.image.records) ≤ free_of self.old.image) }
-        ensures tried { IsErrOf result ImageError.Fault → need_of (table_len self.old.image.records) (table_len (changed [] joined.put.items self.old.image.records)) (released_by [] joined.put.items self.old.image.records) ≤ free_of self.old.image }
+            × (need ≡ need_to_put self.old.image joined.put.items) }
+        ensures fits { OnOk result (need_to_put self.old.image joined.put.items ≤ free_of self.old.image) }
+        ensures tried { IsErrOf result ImageError.Fault → need_to_put self.old.image joined.put.items ≤ free_of self.old.image }
         ensures blocks { W.blocks world.new ≡ W.blocks world.old }
         ensures never_less { NeverLess (W.faults world.old) (W.faults world.new) }
         ensures fault { IsErrOf result ImageError.Fault → Rose (W.faults world.old (part_of Side.Store)) (W.faults world.new (part_of Side.Store)) }

@@ -9,11 +9,9 @@ ghost use Rattle.tm_store_records.specs.Held.{IsWhole, files_of};
 
 use crate::Store;
 use tm_nodes::spellings_are_found;
+use tm_store_records::NODE_KEY;
 use tm_tree::NodeId;
 use tm_world::{Failed, Side, World};
-
-/// The key of the node 0, which there isn't.
-const NODE_KEY: u64 = 1 << 62;
 
 impl Store {
     /// Reads the bytes of a file's node, from a place on. It takes no memory, and fails only where

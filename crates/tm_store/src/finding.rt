@@ -6,7 +6,7 @@ ghost use Rattle.tm_graph.specs.Nodes.{node};
 ghost use Rattle.tm_graph.specs.Trees.{number_at};
 ghost use Rattle.tm_identity.specs.Stored.{node_length};
 ghost use Rattle.tm_store_records.specs.Held.{IsWhole, files_of, store_on};
-ghost use Rattle.tm_store.specs.Finding.{dated, held_at, held_under, body_kind, stat_of, Looks};
+ghost use Rattle.tm_store.specs.Finding.{snapshot_dated, held_at, held_under, kind_of_body, stat_of, Looks};
 
 use crate::Store;
 use tm_base::{LineFault, Moment, Name, Path, Refused};
@@ -112,7 +112,7 @@ impl Store {
 }
 
 fn kind_of(body: &NodeBody) -> Kind
-    ensures { result ≡ body_kind body.now }
+    ensures { result ≡ kind_of_body body.now }
 {
     match body {
         NodeBody::Folder { .. } => Kind::Folder,
@@ -144,7 +144,7 @@ fn stat_of(row: &NodeRow) -> Stat
 
 /// The snapshot with this date, or the last one where no date is given.
 fn pick(snapshots: &[Snapshot], at: Option<Moment>) -> Option<&Snapshot>
-    ensures { option_copied result ≡ dated snapshots.now at }
+    ensures { option_copied result ≡ snapshot_dated snapshots.now at }
 {
     match at {
         None => snapshots.last(),

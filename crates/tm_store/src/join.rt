@@ -1,21 +1,22 @@
 //! What a backup built, in memory before its commit.
 ghost use Rattle.std.specs.Prelude.{◌≡◌, ◌==◌, ◌<◌, ◌≤◌, ◌^◌, not, filter, IfOk, OnOk, length};
 ghost use Rattle.std.specs.List.{list_any};
+ghost use Rattle.tm_base.specs.Limits.{max_nodes};
 ghost use Rattle.tm_graph.specs.declared.built.Built.{Built as What};
 ghost use Rattle.tm_graph.specs.Nodes.{IsGraph, greatest, root_links};
 ghost use Rattle.tm_graph.specs.Growing.{MayGrow, grown};
 ghost use Rattle.tm_store_records.specs.declared.snapshot.Snapshot.{Snapshot as Row};
 ghost use Rattle.tm_store_records.specs.Held.{Held};
-ghost use Rattle.tm_store_growth.specs.Puts.{all_puts, built_blocks};
-ghost use Rattle.tm_store_growth.specs.Completing.{count_after};
-ghost use Rattle.tm_store_growth.specs.Growth.{HaveRecords, MayJoin};
+ghost use Rattle.tm_snapshot.specs.Puts.{all_puts, built_blocks};
+ghost use Rattle.tm_snapshot.specs.Completing.{count_after};
+ghost use Rattle.tm_snapshot.specs.Growth.{HaveRecords, MayJoin};
 ghost use Rattle.tm_store.specs.Joining.{joined};
 
 use crate::Store;
 use std::alloc::AllocError;
 use tm_graph::{Built, growth_is_undone};
 use tm_records::Put;
-use tm_store_growth::{all_records, leftover};
+use tm_snapshot::{all_records, leftover};
 use tm_store_records::Snapshot;
 use tm_tree::NodeId;
 
@@ -30,7 +31,7 @@ pub(crate) struct Joined {
 impl Store {
     /// How many nodes there are with these.
     pub(crate) fn count_with(&self, built: &Built) -> u64
-        requires { length self.now.nodes ≤ 262144 }
+        requires { length self.now.nodes ≤ max_nodes }
         ensures { result ≡ count_after self.now built.now }
     {
         self.graph.len() as u64 + built.nodes.as_slice().len() as u64

@@ -1,19 +1,20 @@
 //! Reading a store.
 ghost use Rattle.std.specs.Prelude.{◌≡◌, ◌≤◌, ◌<◌, ℕ, [], None, false, IfOk, IsErrOf, Err, length};
+ghost use Rattle.tm_base.specs.Limits.{max_blocks};
 ghost use Rattle.tm_world.specs.declared.cause.Cause.{Cause};
 ghost use Rattle.tm_world.specs.Outside.{disk, part_of};
 ghost use Rattle.tm_world.specs.Log.{now, Steps};
 ghost use Rattle.tm_world.specs.Faults.{NeverLess, Rose};
 ghost use Rattle.tm_image.specs.Seen.{Stands};
 ghost use Rattle.tm_store_records.specs.States.{StoreReads, StoreFails, image_of};
-ghost use Rattle.tm_store_records.specs.Held.{IsWhole, stored_on};
-ghost use Rattle.tm_store.specs.Sides.{IsUnformattedImage};
+ghost use Rattle.tm_store_records.specs.Held.{IsWhole, store_stored_on};
+ghost use Rattle.tm_store.specs.Sides.{IsUnformattedStore};
 
 use crate::{LoadError, Store};
 use std::alloc::Global;
 use tm_image::{Image, standing_is_read};
-use tm_store_records::{Contents, StoreError, read_store, read_tag};
-use tm_world::{Cause, Side, World};
+use tm_store_records::{Contents, read_store, read_tag};
+use tm_world::{Side, World};
 
 impl Store {
     /// Reads the store of a side of so many blocks. It writes nothing. No backup runs afterwards,
@@ -25,9 +26,9 @@ impl Store {
     /// count of faults rose.
     pub fn load<W: World>(alloc: Global, world: &mut W, blocks: u32) -> Result<Store, LoadError>
         requires count { W.blocks world.old Side.Store ≡ blocks }
-        requires small { blocks ≤ 262144 }
+        requires small { blocks ≤ max_blocks }
         ensures reads { W.told → ((b : ℕ) → (disk Side.Store (now (W.log world.old))).loose b ≡ false)
-            → IfOk result (λ s. StoreReads (image_of (disk Side.Store (now (W.log world.old)))) (stored_on s (disk Side.Store (now (W.log world.old))).bytes)) }
+            → IfOk result (λ s. StoreReads (image_of (disk Side.Store (now (W.log world.old)))) (store_stored_on s (disk Side.Store (now (W.log world.old))).bytes)) }
         ensures stands { W.told → ((b : ℕ) → (disk Side.Store (now (W.log world.old))).loose b ≡ false)
             → IfOk result (λ s. Stands s.image (disk Side.Store (now (W.log world.old)))) }
         ensures idle { IfOk result (λ s. (s.running ≡ None) × (s.staged ≡ [])) }
@@ -36,7 +37,7 @@ impl Store {
         ensures bad { W.told → ((b : ℕ) → (disk Side.Store (now (W.log world.old))).loose b ≡ false)
             → (cause : Cause) (place : ℕ) → result ≡ Err (LoadError.Bad cause place) → StoreFails (image_of (disk Side.Store (now (W.log world.old)))) cause place }
         ensures least { (cause : Cause) (place : ℕ) → result ≡ Err (LoadError.Bad cause place) → 3 ≤ blocks }
-        ensures unformatted { W.told → result ≡ Err LoadError.Unformatted → IsUnformattedImage (image_of (disk Side.Store (now (W.log world.old)))) }
+        ensures unformatted { W.told → result ≡ Err LoadError.Unformatted → IsUnformattedStore (image_of (disk Side.Store (now (W.log world.old)))) }
         ensures few { blocks < 3 → result ≡ Err LoadError.Unformatted }
         ensures steps { W.told → Steps (W.log world.old) (W.log world.new) (now (W.log world.old)) }
         ensures blocks { W.blocks world.new ≡ W.blocks world.old }
@@ -44,28 +45,15 @@ impl Store {
         ensures fault { IsErrOf result LoadError.Fault → Rose (W.faults world.old (part_of Side.Store)) (W.faults world.new (part_of Side.Store)) }
     {
         standing_is_read();
-        let image = match Image::load(alloc, world, Side::Store, blocks) {
-            Ok(image) => image,
-            Err(error) => return Err(error),
-        };
+        let image = Image::load(alloc, world, Side::Store, blocks)?;
         // This shows that the image is sound.
         let _ = image.total();
         let tag = read_tag(image.tag());
-        let contents = match read_store(alloc, &image, tag.number) {
-            Ok(contents) => contents,
-            Err(StoreError::Bad(key)) => {
-                return Err(LoadError::Bad {
-                    cause: Cause::Record,
-                    place: key,
-                });
-            }
-            Err(StoreError::Memory) => return Err(LoadError::Memory),
-        };
         let Contents {
             machine,
             snapshots,
             nodes,
-        } = contents;
+        } = read_store(alloc, &image, tag.number)?;
         Ok(Store {
             alloc,
             image,

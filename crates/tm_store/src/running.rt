@@ -7,7 +7,7 @@ ghost use Rattle.tm_world.specs.Runs.{Runs};
 ghost use Rattle.tm_world.specs.Faults.{NeverLess, Rose};
 ghost use Rattle.tm_image.specs.Seen.{Stands};
 ghost use Rattle.tm_store_records.specs.States.{LeavesStore};
-ghost use Rattle.tm_store_records.specs.Held.{IsWhole, MayFinish, store_on, stored_on};
+ghost use Rattle.tm_store_records.specs.Held.{IsWhole, MayFinish, store_on, store_stored_on};
 
 use crate::Store;
 use tm_base::Moment;
@@ -28,7 +28,7 @@ impl Store {
         requires count { length self.old.image.used ≡ W.blocks world.old Side.Store }
         requires stands { W.told → Stands self.old.image (disk Side.Store (now (W.log world.old))) }
         ensures any_moment { W.told → let old = (disk Side.Store (now (W.log world.old))).bytes in
-            Runs Side.Store (LeavesStore (stored_on self.old old) (record { store = store_on self.old old; running = Some date })) (W.log world.old) (W.log world.new) }
+            Runs Side.Store (LeavesStore (store_stored_on self.old old) (record { store = store_on self.old old; running = Some date })) (W.log world.old) (W.log world.new) }
         ensures stands { W.told → OnOk result (Stands self.new.image (disk Side.Store (now (W.log world.new)))) }
         ensures state { W.told → OnOk result (store_on self.new (disk Side.Store (now (W.log world.new))).bytes ≡ store_on self.old (disk Side.Store (now (W.log world.old))).bytes) }
         ensures running { OnOk result ((self.new.running ≡ Some date) × (self.new.stored ≡ Some date)) }
@@ -60,7 +60,7 @@ impl Store {
         requires count { length self.old.image.used ≡ W.blocks world.old Side.Store }
         requires stands { W.told → Stands self.old.image (disk Side.Store (now (W.log world.old))) }
         ensures any_moment { W.told → let old = (disk Side.Store (now (W.log world.old))).bytes in
-            Runs Side.Store (LeavesStore (stored_on self.old old) (record { store = store_on self.old old; running = None })) (W.log world.old) (W.log world.new) }
+            Runs Side.Store (LeavesStore (store_stored_on self.old old) (record { store = store_on self.old old; running = None })) (W.log world.old) (W.log world.new) }
         ensures stands { W.told → OnOk result (Stands self.new.image (disk Side.Store (now (W.log world.new)))) }
         ensures state { W.told → OnOk result (store_on self.new (disk Side.Store (now (W.log world.new))).bytes ≡ store_on self.old (disk Side.Store (now (W.log world.old))).bytes) }
         ensures running { OnOk result ((self.new.running ≡ None) × (self.new.stored ≡ None) × (self.new.staged ≡ [])) }

@@ -1,18 +1,19 @@
 //! Blobs of files before the snapshot that takes them up.
-ghost use Rattle.std.specs.Prelude.{◌≡◌, ◌==◌, ◌<◌, ◌≤◌, ◌+◌, ◌++◌, ◌/◌, ℕ, [], not, filter, OnOk, IfOk, length, vec_len, vec_capacity};
+ghost use Rattle.std.specs.Prelude.{◌≡◌, ◌==◌, ◌<◌, ◌≤◌, ◌+◌, ◌++◌, ◌/◌, ℕ, [], true, false, not, filter, OnOk, IfOk, length, vec_len, vec_capacity};
 ghost use Rattle.std.specs.List.{list_any};
-ghost use Rattle.tm_world.specs.Outside.{disk, part_of};
+ghost use Rattle.std.specs.List.Sorted.{IsNonDecreasing};
+ghost use Rattle.tm_world.specs.Outside.{disk};
 ghost use Rattle.tm_world.specs.Log.{now};
 ghost use Rattle.tm_world.specs.Runs.{Runs};
-ghost use Rattle.tm_world.specs.Faults.{NeverLess, Rose};
+ghost use Rattle.tm_world.specs.Faults.{NeverLess};
 ghost use Rattle.tm_blockmap.specs.Counts.{times};
 ghost use Rattle.tm_chain.specs.Blob.{bytes_in, blob_len};
 ghost use Rattle.tm_image.specs.Seen.{IsSound, Stands, content_of};
 ghost use Rattle.tm_image.specs.Room.{free_of, AreStaged};
 ghost use Rattle.tm_store_records.specs.Room.{store_blocks};
 ghost use Rattle.tm_store_records.specs.States.{LeavesOneStore};
-ghost use Rattle.tm_store_records.specs.Held.{IsWhole, store_on, stored_on};
-ghost use Rattle.tm_store.specs.Answers.{IfRefused, IsFull, OnFault, OnRefusal, UnlessFault};
+ghost use Rattle.tm_store_records.specs.Held.{IsWhole, store_on, store_stored_on};
+ghost use Rattle.tm_store.specs.Answers.{IfRefused, IsFullRefusal, BlamesStore, OnRefusal, UnlessFault};
 
 use crate::Store;
 use tm_base::{LineFault, Refused};
@@ -27,11 +28,46 @@ fn contains(blocks: &[u32], block: u32) -> bool
     blocks.iter().any(|x| *x == block)
 }
 
-/// Takes the blocks of one list out of another.
-fn take_out(list: &mut Vec<u32>, blocks: &[u32])
+/// Whether no block of a list is less than one before it.
+fn rises(blocks: &[u32]) -> bool
+    ensures up { result ≡ true → IsNonDecreasing blocks.now }
+    ensures down { result ≡ false → ¬ IsNonDecreasing blocks.now }
+{
+    blocks.is_sorted()
+}
+
+/// Whether a block stands in a list that rises.
+fn stands_in(rising: &[u32], block: u32) -> bool
+    requires { IsNonDecreasing rising.now }
+    ensures { result ≡ list_any (λ x. x == block) rising.now }
+{
+    rising.binary_search(&block).is_ok()
+}
+
+/// Takes the blocks of a list that rises out of another, each found or missed by halves.
+fn take_rising(list: &mut Vec<u32>, rising: &[u32])
+    requires { IsNonDecreasing rising.now }
+    ensures { list.new.items ≡ filter (λ b. not (list_any (λ x. x == b) rising.now)) list.old.items }
+{
+    list.retain(|block| !stands_in(rising, *block));
+}
+
+/// Takes the blocks of any list out of another.
+fn take_any(list: &mut Vec<u32>, blocks: &[u32])
     ensures { list.new.items ≡ filter (λ b. not (list_any (λ x. x == b) blocks.now)) list.old.items }
 {
     list.retain(|block| !contains(blocks, *block));
+}
+
+/// Takes the blocks of one list out of another. Those of a staged blob rise.
+fn take_out(list: &mut Vec<u32>, blocks: &[u32])
+    ensures { list.new.items ≡ filter (λ b. not (list_any (λ x. x == b) blocks.now)) list.old.items }
+{
+    if rises(blocks) {
+        take_rising(list, blocks);
+    } else {
+        take_any(list, blocks);
+    }
 }
 
 /// Lists more blocks, for which there is room.
@@ -54,7 +90,7 @@ impl Store {
         requires count { length self.old.image.used ≡ W.blocks world.old Side.Store }
         requires stands { W.told → Stands self.old.image (disk Side.Store (now (W.log world.old))) }
         ensures any_moment { W.told → let old = (disk Side.Store (now (W.log world.old))).bytes in
-            Runs Side.Store (LeavesOneStore (stored_on self.old old)) (W.log world.old) (W.log world.new) }
+            Runs Side.Store (LeavesOneStore (store_stored_on self.old old)) (W.log world.old) (W.log world.new) }
         ensures stands { W.told → UnlessFault result (Stands self.new.image (disk Side.Store (now (W.log world.new)))) }
         ensures state { W.told → UnlessFault result (store_on self.new (disk Side.Store (now (W.log world.new))).bytes ≡ store_on self.old (disk Side.Store (now (W.log world.old))).bytes) }
         ensures holds { W.told → IfOk result (λ blob. bytes_in blob.blocks (disk Side.Store (now (W.log world.new))).bytes 0 blob.length ≡ bytes.now) }
@@ -66,12 +102,12 @@ impl Store {
         ensures size { length self.new.image.used ≡ length self.old.image.used }
         ensures free { IfOk result (λ blob. free_of self.new.image + length blob.blocks ≡ free_of self.old.image) }
         ensures whole { UnlessFault result (IsWhole self.new) }
-        ensures refused { IfRefused result (IsFull (blob_len (length bytes.now) + store_blocks self.old.machine self.old.snapshots self.old.nodes) (free_of self.old.image)) }
+        ensures refused { IfRefused result (IsFullRefusal (blob_len (length bytes.now) + store_blocks self.old.machine self.old.snapshots self.old.nodes) (free_of self.old.image)) }
         ensures fits { OnOk result (blob_len (length bytes.now) + store_blocks self.old.machine self.old.snapshots self.old.nodes ≤ free_of self.old.image) }
         ensures err { OnRefusal result ((self.new ≡ self.old) × (world.new ≡ world.old)) }
         ensures blocks { W.blocks world.new ≡ W.blocks world.old }
         ensures never_less { NeverLess (W.faults world.old) (W.faults world.new) }
-        ensures fault { OnFault result (Rose (W.faults world.old (part_of Side.Store)) (W.faults world.new (part_of Side.Store))) }
+        ensures fault { BlamesStore result (W.faults world.old) (W.faults world.new) }
     {
         table_is_told();
         // So its blocks can be listed afterwards without memory.

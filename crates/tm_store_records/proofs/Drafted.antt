@@ -2,19 +2,19 @@
 use Rattle.std.proofs.Common.{◌≡◌, ℕ, ◌^◌, ◌≤◌, true, Option, None, is_some, List, refl, sym, ap, ◌∙◌, subst}
 use Rattle.tm_graph.specs.Nodes.{Nodes, IsGraph}
 use Rattle.tm_store_records.specs.declared.draft.Draft.{Draft}
-use Rattle.tm_store_records.specs.Heads.{Heads}
+use Rattle.tm_store_records.specs.Heads.{RecordHeads}
 use Rattle.tm_store_records.specs.Found.{machine_in, snapshots_in, nodes_in, snapshot_key, node_key}
-use Rattle.tm_store_records.specs.Rules.{Keeps, IsGoodStore}
-use Rattle.tm_store_records.specs.Drafts.{IsUnread, IsOrdered, IsLeastOf, Tells}
+use Rattle.tm_store_records.specs.Rules.{IsGoodKey, IsGoodStore}
+use Rattle.tm_store_records.specs.Drafts.{IsUnread, IsOrdered, IsLeastFailing, DraftTells}
 use Rattle.tm_store_records.proofs.Linking.{graph_is}
 
 -- a draft that was read says what the heads stand for
-pub told : (draft : Draft) (heads : Heads) → draft.machine ≡ machine_in heads → draft.snapshots.items ≡ snapshots_in heads → draft.nodes.items ≡ nodes_in heads → IsUnread heads draft.unread → Tells draft heads
+pub told : (draft : Draft) (heads : RecordHeads) → draft.machine ≡ machine_in heads → draft.snapshots.items ≡ snapshots_in heads → draft.nodes.items ≡ nodes_in heads → IsUnread heads draft.unread → DraftTells draft heads
 told draft heads machine snapshots nodes unread = record { machine = machine; snapshots = snapshots; nodes = nodes; unread = unread }
 
-module _ (draft : Draft) (heads : Heads) (number : ℕ) (tells : Tells draft heads) (key : Option ℕ) (none : key ≡ None) (least : Tells draft heads → IsLeastOf (Keeps heads number) key) where
+module _ (draft : Draft) (heads : RecordHeads) (number : ℕ) (tells : DraftTells draft heads) (key : Option ℕ) (none : key ≡ None) (least : DraftTells draft heads → IsLeastFailing (IsGoodKey heads number) key) where
   good : IsGoodStore heads number
-  good = subst (λ (o : Option ℕ). IsLeastOf (Keeps heads number) o) none (least tells)
+  good = subst (λ (o : Option ℕ). IsLeastFailing (IsGoodKey heads number) o) none (least tells)
 
   pub has_machine : is_some draft.machine ≡ true
   has_machine = ap (λ (o : Option (List ℕ)). is_some o) tells.machine ∙ (good 1).machine refl

@@ -7,10 +7,10 @@ use Rattle.tm_tree.specs.declared.node.NodeRow.{NodeRow}
 use Rattle.tm_graph.specs.Nodes.{Nodes, node, entries_of}
 use Rattle.tm_graph.specs.Trees.{child_of, and_then, number_at, number}
 use Rattle.tm_graph.proofs.WaysFound.{times_named}
-use Rattle.tm_identity.specs.Stores.{Stands, label_of}
-use Rattle.tm_store_records.specs.Places.{Leads, StandsAt}
+use Rattle.tm_identity.specs.Stores.{IsUnderRoot, label_of}
+use Rattle.tm_store_records.specs.Places.{LeadsDown, NodeStandsAt}
 use Rattle.tm_store_records.specs.Rules.{IsGoodNode}
-use Rattle.tm_store_records.proofs.Onward.{Sorted}
+use Rattle.tm_store_records.proofs.NextKeyLemmas.{Sorted}
 use Rattle.tm_store_records.proofs.Placed.{place_of}
 
 -- nodes that keep the rules, each by itself
@@ -35,7 +35,7 @@ module _ (g : Nodes) (roots : List ℕ) (next : ℕ) (sorted : Sorted g) (good :
       by_node (Some row) h c = let rules = (kept n row h).rules in (rules.children m (times_named (entries_of row) name m c)).0
 
   -- the way down leads there
-  pub way_leads : (p : Names) (n m : ℕ) → number_at g n p ≡ Some m → Leads g n p m
+  pub way_leads : (p : Names) (n m : ℕ) → number_at g n p ≡ Some m → LeadsDown g n p m
   way_leads [] n m e = by_node (node g n) e
     where
       by_node : (o : Option NodeRow) → option_map (number n) o ≡ Some m → n ≡ m
@@ -43,11 +43,11 @@ module _ (g : Nodes) (roots : List ℕ) (next : ℕ) (sorted : Sorted g) (good :
       by_node (Some row) h = cc
   way_leads (x ∷ p) n m e = by_child (child_of (node g n) x) refl e (λ k h. way_leads p k m h)
     where
-      by_child : (o : Option ℕ) → child_of (node g n) x ≡ o → and_then o (λ k. number_at g k p) ≡ Some m → ((k : ℕ) → number_at g k p ≡ Some m → Leads g k p m) → Leads g n (x ∷ p) m
+      by_child : (o : Option ℕ) → child_of (node g n) x ≡ o → and_then o (λ k. number_at g k p) ≡ Some m → ((k : ℕ) → number_at g k p ≡ Some m → LeadsDown g k p m) → LeadsDown g n (x ∷ p) m
       by_child None c h rest = absurd (cc h)
       by_child (Some k) c h rest = (k, c, child_low n k x c, rest k h)
 
-  pub stands : (r n : ℕ) (p : Names) → Stands g roots r p n → StandsAt g roots p n
+  pub stands : (r n : ℕ) (p : Names) → IsUnderRoot g roots r p n → NodeStandsAt g roots p n
   stands r n p s = record { root = r; is_root = s.0; leads = way_leads p r n s.1 }
 
   -- what stands is there
@@ -63,7 +63,7 @@ module _ (g : Nodes) (roots : List ℕ) (next : ℕ) (sorted : Sorted g) (good :
       by_child None h rest = absurd (cc h)
       by_child (Some k) h rest = rest k h
 
-  pub one_path : (r s n : ℕ) (p q : Names) → Stands g roots r p n → Stands g roots s q n → p ≡ q
+  pub one_path : (r s n : ℕ) (p q : Names) → IsUnderRoot g roots r p n → IsUnderRoot g roots s q n → p ≡ q
   one_path r s n p q a b =
       let here = there p r n a.1 in
       let rules = (kept n here.0 here.1).rules in
@@ -72,14 +72,14 @@ module _ (g : Nodes) (roots : List ℕ) (next : ℕ) (sorted : Sorted g) (good :
   label_is : (n : ℕ) (row : NodeRow) → node g n ≡ Some row → label_of g n ≡ row.label
   label_is n row e = ap (λ (o : Option NodeRow). unwrap_or (option_map (λ row. row.label) o) 0) e
 
-  lower_not : (r s m n : ℕ) (p : Names) → m < n → Stands g roots r p m → Stands g roots s p n → label_of g m ≡ label_of g n → ⊥
+  lower_not : (r s m n : ℕ) (p : Names) → m < n → IsUnderRoot g roots r p m → IsUnderRoot g roots s p n → label_of g m ≡ label_of g n → ⊥
   lower_not r s m n p lt a b same =
       let low = there p r m a.1 in
       let high = there p s n b.1 in
       let rules = (kept n high.0 high.1).rules in
       rules.one_node m low.0 p lt low.1 (sym (label_is m low.0 low.1) ∙ same ∙ label_is n high.0 high.1) (stands r m p a) (stands s n p b)
 
-  pub one_node : (r s m n : ℕ) (p : Names) → Stands g roots r p m → Stands g roots s p n → label_of g m ≡ label_of g n → m ≡ n
+  pub one_node : (r s m n : ℕ) (p : Names) → IsUnderRoot g roots r p m → IsUnderRoot g roots s p n → label_of g m ≡ label_of g n → m ≡ n
   one_node r s m n p a b same = ⊎_elim
       (λ (lt : m < n). absurd (lower_not r s m n p lt a b same))
       (λ (le : n ≤ m). ⊎_elim

@@ -3,13 +3,13 @@ pub mod Leaving
 mod Laying
 mod Tagging
 pub mod Retagging
-pub mod Onward
+pub mod NextKeyLemmas
 mod Reading
 pub mod Placed
 pub mod Dating
 pub mod Stepping
-pub mod Spotting
-pub mod Coming
+pub mod LocationLemmas
+pub mod ArrivalLemmas
 pub mod Walking
 pub mod Rooting
 pub mod Passing

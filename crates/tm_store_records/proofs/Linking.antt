@@ -5,14 +5,15 @@ use Rattle.std.specs.Option.{option_map, unwrap_or}
 use Rattle.std.proofs.lemmas.Bool.{cases_lt}
 use Rattle.std.proofs.lemmas.Bool.Decides.{nat_tests}
 use Rattle.std.proofs.lemmas.List.Sums.{sum_by-cons, count_by-le-length}
+use Rattle.tm_base.proofs.Facts.{some_there}
 use Rattle.tm_tree.specs.declared.node.NodeRow.{NodeRow}
 use Rattle.tm_graph.specs.Nodes.{Nodes, node, entries_of, names, times, named, links_of, row_names, IsGraph}
 use Rattle.tm_identity.specs.Stores.{IsStore}
 use Rattle.tm_store_records.specs.declared.snapshot.Snapshot.{Snapshot}
 use Rattle.tm_store_records.specs.Found.{roots_of}
 use Rattle.tm_store_records.specs.Rules.{IsGoodSnapshot, is_folder_node}
-use Rattle.tm_store_records.specs.Spotted.{AllRise}
-use Rattle.tm_store_records.proofs.Onward.{Sorted}
+use Rattle.tm_store_records.specs.Located.{AllRise}
+use Rattle.tm_store_records.proofs.NextKeyLemmas.{Sorted}
 use Rattle.tm_store_records.proofs.Placed.{place_of}
 use Rattle.tm_store_records.proofs.Graphing.{AllGood, kept, one_path, one_node}
 
@@ -121,13 +122,6 @@ module _ (g : Nodes) (snapshots : List Snapshot) (number : ℕ) (sorted : Sorted
           (λ (h : times q (entries_of row) ≤ 0). omega (arith, h))
           (cases_lt 0 (times q (entries_of row)))
 
-  with_row : (q : ℕ) → is_some (node g q) ≡ true → (row : NodeRow) × (node g q ≡ Some row)
-  with_row q t = by_node (node g q) refl t
-    where
-      by_node : (o : Option NodeRow) → node g q ≡ o → is_some o ≡ true → (row : NodeRow) × (node g q ≡ Some row)
-      by_node None e h = absurd (cc h)
-      by_node (Some row) e h = (row, e)
-
   pub graph_is : IsGraph g
   graph_is = record {
     in_order = sorted;
@@ -135,13 +129,13 @@ module _ (g : Nodes) (snapshots : List Snapshot) (number : ℕ) (sorted : Sorted
     falls = falls;
     counted = λ q. (let all = links_are q in omega (arith, all));
     few = λ q. (let all = links_are q in let a = named_few q in let b = roots_few q in omega (arith, all, a, b));
-    low = λ q t. (let row = with_row q t in let high = (kept g (roots_of snapshots) number sorted good q row.0 row.1).rules.most in omega (arith, high, most));
+    low = λ q t. (let row = some_there (node g q) t in let high = (kept g (roots_of snapshots) number sorted good q row.0 row.1).rules.most in omega (arith, high, most));
   }
 
   pub store_is : IsStore g (roots_of snapshots)
   store_is = record {
     graph = graph_is;
-    linked = λ q t. (let row = with_row q t in let rules = (kept g (roots_of snapshots) number sorted good q row.0 row.1).rules in
+    linked = λ q t. (let row = some_there (node g q) t in let rules = (kept g (roots_of snapshots) number sorted good q row.0 row.1).rules in
         let links : links_of g q ≡ row.0.links = ap (λ (o : Option NodeRow). unwrap_or (option_map (λ row. row.links) o) 0) row.1 in
         let least = rules.linked in omega (arith, links, least));
     rooted = λ q. (let all = links_are q in omega (arith, all));

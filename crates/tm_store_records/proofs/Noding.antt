@@ -15,10 +15,10 @@ use Rattle.tm_graph.specs.Nodes.{body_entries, NamesRise}
 use Rattle.tm_nodes.specs.Laws.{FindsSpelled}
 use Rattle.tm_nodes.specs.Nodes.{node_text, IsNodeTail, IsNodeOfSize}
 use Rattle.tm_nodes.specs.Records.{node_of}
-use Rattle.tm_store_records.specs.Heads.{Head, Heads}
+use Rattle.tm_store_records.specs.Heads.{RecordHead, RecordHeads}
 use Rattle.tm_store_records.specs.Found.{is_node_key, node_in, nodes_in}
-use Rattle.tm_store_records.specs.Spotted.{AllRise}
-use Rattle.tm_store_records.proofs.Onward.{Sorted, head_above, tail_sorted, less_lt, lt_less}
+use Rattle.tm_store_records.specs.Located.{AllRise}
+use Rattle.tm_store_records.proofs.NextKeyLemmas.{Sorted, head_above, tail_sorted, less_lt, lt_less}
 
 -- what is given of a list is given of one of its elements
 pub record Given {X Y : Type 0} (f : X → Option Y) (xs : List X) (y : Y) : Type 0 where
@@ -41,14 +41,14 @@ given {X} {Y} f (x ∷ xs) i y is = by_value (f x) refl i is (λ j at. later (gi
 
 -- ---- the record of a node
 
-pub record IsRead (e : ℕ × NodeRow) (head : ℕ × Head) : Type 0 where
+pub record IsRead (e : ℕ × NodeRow) (head : ℕ × RecordHead) : Type 0 where
   pub key : head.0 ≡ 2 ^ 62 + e.0
   pub row : node_of head.1.meta head.1.size ≡ Some e.1
 
 at_least : (a b : ℕ) → nat_le a b ≡ true → a ≤ b
 at_least a b t = grind (arith, nat_tests)
 
-pub read_from : (head : ℕ × Head) (e : ℕ × NodeRow) → node_in head ≡ Some e → IsRead e head
+pub read_from : (head : ℕ × RecordHead) (e : ℕ × NodeRow) → node_in head ≡ Some e → IsRead e head
 read_from head e is = by_key (is_node_key head.0) refl is
   where
     some_row : (o : Option NodeRow) → option_map (λ row. (head.0 - 2 ^ 62, row)) o ≡ Some e → (head.0 - 2 ^ 62 ≡ e.0) × (o ≡ Some e.1)
@@ -76,7 +76,7 @@ tail_rises (Leaf leaf) tail = none_rise
 abbrev pub NodesAreFound : Type 0
 NodesAreFound = (size : ℕ) → FindsSpelled (λ meta. node_of meta size) node_text (IsNodeOfSize size)
 
-pub nodes_rise : NodesAreFound → (heads : Heads) → AllRise (nodes_in heads)
+pub nodes_rise : NodesAreFound → (heads : RecordHeads) → AllRise (nodes_in heads)
 nodes_rise found heads place e is =
     let from = given node_in heads place e is in
     let read = read_from from.from e from.is in
@@ -87,7 +87,7 @@ tail_short : (body : NodeBody) → IsNodeTail body → length (body_entries body
 tail_short (Folder attrs entries) tail = tail.few
 tail_short (Leaf leaf) tail = omega arith
 
-pub nodes_short : NodesAreFound → (heads : Heads) (place : ℕ) (e : ℕ × NodeRow) → slice_get (nodes_in heads) place ≡ Some e → length (body_entries e.1.body) < 2 ^ 32
+pub nodes_short : NodesAreFound → (heads : RecordHeads) (place : ℕ) (e : ℕ × NodeRow) → slice_get (nodes_in heads) place ≡ Some e → length (body_entries e.1.body) < 2 ^ 32
 nodes_short found heads place e is =
     let from = given node_in heads place e is in
     let read = read_from from.from e from.is in
@@ -95,7 +95,7 @@ nodes_short found heads place e is =
 
 -- ---- numbers rise
 
-above_each : (low k : ℕ) (heads : Heads) → k ≡ 2 ^ 62 + low → AllByRecursion (λ y. nat_cmp k y ≡ Less) (keys_of heads) → AllByRecursion (λ y. nat_cmp low y ≡ Less) (keys_of (nodes_in heads))
+above_each : (low k : ℕ) (heads : RecordHeads) → k ≡ 2 ^ 62 + low → AllByRecursion (λ y. nat_cmp k y ≡ Less) (keys_of heads) → AllByRecursion (λ y. nat_cmp low y ≡ Less) (keys_of (nodes_in heads))
 above_each low k [] is above = tt
 above_each low k (head ∷ heads) is above = by_value (node_in head) refl (above_each low k heads is above.1)
   where
@@ -106,7 +106,7 @@ above_each low k (head ∷ heads) is above = by_value (node_in head) refl (above
         let less = less_lt k head.0 above.0 in
         (lt_less low node.0 (let key = read.key in omega (arith, key, less, is)), rest)
 
-pub nodes_sorted : (heads : Heads) → Sorted heads → Sorted (nodes_in heads)
+pub nodes_sorted : (heads : RecordHeads) → Sorted heads → Sorted (nodes_in heads)
 unfolding IsStrictlySortedBy
 nodes_sorted [] sorted = tt
 nodes_sorted (head ∷ heads) sorted = by_value (node_in head) refl (nodes_sorted heads (tail_sorted head heads sorted))

@@ -1,5 +1,5 @@
 -- What is read of an image is in order.
-use Rattle.std.proofs.Common.{zero, suc, ◌≡◌, ℕ, ◌+◌, ◌-◌, ◌^◌, ◌<◌, ◌≤◌, ◌&&◌, Bool, true, false, cond, Option, Some, None, List, [], ◌∷◌, slice_get, refl, sym, ap, ◌∙◌, arith, subst}
+use Rattle.std.proofs.Common.{zero, suc, ◌≡◌, ℕ, ◌+◌, ◌-◌, ◌^◌, ◌<◌, ◌≤◌, Bool, true, false, cond, Option, Some, None, List, [], ◌∷◌, slice_get, refl, sym, ap, ◌∙◌, arith, subst}
 use Rattle.std.specs.Prelude.{nat_le, nat_lt}
 use Rattle.std.specs.Ordering.{nat_cmp}
 use Rattle.std.specs.List.{All, cons_option}
@@ -7,14 +7,15 @@ use Rattle.std.specs.List.Sorted.{IsStrictlySortedBy}
 use Rattle.std.specs.Map.{keys_of}
 use Rattle.std.specs.Option.{option_map}
 use Rattle.std.proofs.lemmas.Bool.Decides.{nat_tests}
+use Rattle.tm_base.proofs.Facts.{both_true}
 use Rattle.tm_records.specs.Records.{Records}
 use Rattle.tm_nodes.specs.declared.snapshot.SnapshotRow.{SnapshotRow}
 use Rattle.tm_nodes.specs.Records.{snapshot_of}
 use Rattle.tm_store_records.specs.declared.snapshot.Snapshot.{Snapshot}
-use Rattle.tm_store_records.specs.Heads.{Head, Heads, heads_of}
-use Rattle.tm_store_records.specs.Found.{is_snapshot_key, numbered, snapshot_in, node_in, snapshots_in, nodes_in}
+use Rattle.tm_store_records.specs.Heads.{RecordHead, RecordHeads, heads_of}
+use Rattle.tm_store_records.specs.Found.{is_snapshot_key, numbered_snapshot, snapshot_in, node_in, snapshots_in, nodes_in}
 use Rattle.tm_store_records.specs.Drafts.{IsOrdered}
-use Rattle.tm_store_records.proofs.Onward.{Sorted, tail_sorted}
+use Rattle.tm_store_records.proofs.NextKeyLemmas.{Sorted, tail_sorted}
 use Rattle.tm_store_records.proofs.Placed.{rises}
 use Rattle.tm_store_records.proofs.Reading.{heads_sorted, keys_are}
 use Rattle.tm_store_records.proofs.Noding.{given, NodesAreFound, read_from, nodes_sorted, nodes_rise, nodes_short}
@@ -25,24 +26,20 @@ pub record IsSnapshotOf (s : Snapshot) (key : ℕ) : Type 0 where
   pub key_is : key ≡ 2 ^ 40 + s.number
   pub low : key < 2 ^ 62
 
-both_true : (a b : Bool) → a && b ≡ true → (a ≡ true) × (b ≡ true)
-both_true true b e = (refl, e)
-both_true false b e = absurd (cc e)
-
 at_least : (a b : ℕ) → nat_le a b ≡ true → a ≤ b
 at_least a b t = grind (arith, nat_tests)
 
 below : (a b : ℕ) → nat_lt a b ≡ true → a < b
 below a b t = grind (arith, nat_tests)
 
-pub snapshot_from : (head : ℕ × Head) (s : Snapshot) → snapshot_in head ≡ Some s → IsSnapshotOf s head.0
+pub snapshot_from : (head : ℕ × RecordHead) (s : Snapshot) → snapshot_in head ≡ Some s → IsSnapshotOf s head.0
 snapshot_from head s is = by_key (is_snapshot_key head.0) refl is
   where
-    number_of : (o : Option SnapshotRow) → option_map (numbered (head.0 - 2 ^ 40)) o ≡ Some s → head.0 - 2 ^ 40 ≡ s.number
+    number_of : (o : Option SnapshotRow) → option_map (numbered_snapshot (head.0 - 2 ^ 40)) o ≡ Some s → head.0 - 2 ^ 40 ≡ s.number
     number_of None h = absurd (cc h)
-    number_of (Some row) h = let same : numbered (head.0 - 2 ^ 40) row ≡ s = cc in ap (λ (x : Snapshot). x.number) same
+    number_of (Some row) h = let same : numbered_snapshot (head.0 - 2 ^ 40) row ≡ s = cc in ap (λ (x : Snapshot). x.number) same
 
-    by_key : (b : Bool) → is_snapshot_key head.0 ≡ b → cond b (option_map (numbered (head.0 - 2 ^ 40)) (snapshot_of head.1.meta)) None ≡ Some s → IsSnapshotOf s head.0
+    by_key : (b : Bool) → is_snapshot_key head.0 ≡ b → cond b (option_map (numbered_snapshot (head.0 - 2 ^ 40)) (snapshot_of head.1.meta)) None ≡ Some s → IsSnapshotOf s head.0
     by_key true t h =
         let bounds = both_true (nat_le (2 ^ 40) head.0) (nat_lt head.0 (2 ^ 62)) t in
         let least : 2 ^ 40 ≤ head.0 = at_least (2 ^ 40) head.0 bounds.0 in
@@ -52,7 +49,7 @@ snapshot_from head s is = by_key (is_snapshot_key head.0) refl is
 
 -- ---- numbers rise
 
-pub snapshots_rise : (heads : Heads) (i j : ℕ) (s t : Snapshot) → Sorted heads → i < j → slice_get (snapshots_in heads) i ≡ Some s → slice_get (snapshots_in heads) j ≡ Some t → s.number < t.number
+pub snapshots_rise : (heads : RecordHeads) (i j : ℕ) (s t : Snapshot) → Sorted heads → i < j → slice_get (snapshots_in heads) i ≡ Some s → slice_get (snapshots_in heads) j ≡ Some t → s.number < t.number
 snapshots_rise [] i j s t sorted lt a b = absurd (cc a)
 snapshots_rise (head ∷ heads) i j s t sorted lt a b = by_value (snapshot_in head) refl i j lt a b (λ k l low c d. snapshots_rise heads k l s t (tail_sorted head heads sorted) low c d)
   where

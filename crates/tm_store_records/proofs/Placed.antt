@@ -1,5 +1,5 @@
 -- Numbered rows by their places.
-use Rattle.std.proofs.Common.{zero, suc, ◌≡◌, ◌≢◌, ℕ, ◌+◌, ◌<◌, ◌≤◌, true, false, cond, Option, Some, None, List, [], ◌∷◌, length, get_or, refl, sym, ap, ◌∙◌, arith, subst, ⊎_elim}
+use Rattle.std.proofs.Common.{zero, suc, ◌≡◌, ◌≢◌, ℕ, ◌+◌, ◌<◌, ◌≤◌, cond, Option, Some, None, List, [], ◌∷◌, length, get_or, refl, sym, ap, ◌∙◌, arith, subst, ⊎_elim}
 use Rattle.std.specs.declared.cmp.Ordering.TheVariants.{Less, Equal, Greater}
 use Rattle.std.specs.Ordering.{nat_cmp, ordering_reverse, is_lt, is_eq, ordering_index}
 use Rattle.std.specs.Cmp.{nat_cmp_total}
@@ -9,7 +9,8 @@ use Rattle.std.specs.Map.{keys_of}
 use Rattle.std.proofs.lemmas.List.Sorted.{searchable_from_sorted}
 use Rattle.std.proofs.lemmas.Option.{slice_get-get_or, get_or_from_slice_get}
 use Rattle.std.proofs.lemmas.Bool.{cases_lt, cases_eq}
-use Rattle.tm_store_records.proofs.Onward.{Sorted, at, at_same, at_other, less_lt, lt_less, head_above, tail_sorted}
+use Rattle.tm_base.proofs.Facts.{false_true}
+use Rattle.tm_store_records.proofs.NextKeyLemmas.{Sorted, at, at_same, at_other, less_lt, lt_less, head_above, tail_sorted}
 
 pub equal_is : (a b : ℕ) → nat_cmp a b ≡ Equal → a ≡ b
 equal_is a b e = ⊎_elim
@@ -88,9 +89,6 @@ module _ {X : Type 0} where
   pub not_found : (g : List (ℕ × X)) (n place : ℕ) → Sorted g → IsPartitionPoint (λ e. nat_cmp e.0 n ≡ Less) (λ e. nat_cmp e.0 n ≡ Greater) g place → at g n ≡ None
   not_found g n place s part = by_value (at g n) refl
     where
-      false_true : {P : Type 0} → false ≡ true → P
-      false_true e = cc
-
       at_index : (i : ℕ) (x : X) → slice_get g i ≡ Some (n, x) → ⊥
       at_index i x is =
           let d : ℕ × X = (n, x) in

@@ -11,13 +11,13 @@ use Rattle.tm_graph.proofs.Same.{at-mapped, keys-mapped}
 use Rattle.tm_nodes.specs.Records.{machine_of}
 use Rattle.tm_records.specs.declared.record.Record.{Record}
 use Rattle.tm_records.specs.Records.{Records, at}
-use Rattle.tm_store_records.specs.Heads.{Head, Heads, heads_of, head_at}
+use Rattle.tm_store_records.specs.Heads.{RecordHead, RecordHeads, heads_of, head_at}
 use Rattle.tm_store_records.specs.Found.{machine_in}
 use Rattle.tm_store_records.specs.Rules.{is_record}
 use Rattle.tm_store_records.specs.Drafts.{IsUnread, AreReadBelow, noted}
-use Rattle.tm_store_records.proofs.Onward.{Sorted, rest_of, next_of, onward, none_between, none_first, next_above, lt_false, at_other}
+use Rattle.tm_store_records.proofs.NextKeyLemmas.{Sorted, rest_of, next_of, onward, none_between, none_first, next_above, lt_false, at_other}
 
-abbrev pub head_of : Record → Head
+abbrev pub head_of : Record → RecordHead
 head_of r = record { meta = r.meta; size = r.length }
 
 pub head-at : (records : Records) (key : ℕ) → head_at key (heads_of records) ≡ option_map head_of (at key records)
@@ -38,15 +38,15 @@ head_is records key size meta m s = head-at records key ∙ by_record (at key re
         let sizes : r.length ≡ size = cc in
         λ i. Some (record { meta = metas i; size = sizes i })
 
-pub head_there : (records : Records) (key : ℕ) → is_some (at key records) ≡ true → (head : Head) × (head_at key (heads_of records) ≡ Some head)
+pub head_there : (records : Records) (key : ℕ) → is_some (at key records) ≡ true → (head : RecordHead) × (head_at key (heads_of records) ≡ Some head)
 head_there records key there = by_record (at key records) refl there
   where
-    by_record : (o : Option Record) → at key records ≡ o → is_some o ≡ true → (head : Head) × (head_at key (heads_of records) ≡ Some head)
+    by_record : (o : Option Record) → at key records ≡ o → is_some o ≡ true → (head : RecordHead) × (head_at key (heads_of records) ≡ Some head)
     by_record None e t = absurd (cc t)
     by_record (Some r) e t = (head_of r, head-at records key ∙ ap (λ o. option_map head_of o) e)
 
 -- the machine is that of the record at 1
-pub machine_here : (heads : Heads) (key : ℕ) (head : Head) → key ≡ 1 → head_at key heads ≡ Some head → machine_in heads ≡ machine_of head.meta
+pub machine_here : (heads : RecordHeads) (key : ℕ) (head : RecordHead) → key ≡ 1 → head_at key heads ≡ Some head → machine_in heads ≡ machine_of head.meta
 machine_here heads key head one is = ap (λ o. option_and_then (λ h. machine_of h.meta) o) (subst (λ k. head_at k heads ≡ Some head) one is)
 
 -- ---- the next key
@@ -68,20 +68,20 @@ abbrev pub IsPassed : Option ℕ → ℕ → Type 0
 IsPassed next k = (n : ℕ) → next ≡ Some n → k < n
 
 -- the first that is none of a store's, among those before the next key
-abbrev pub IsUnreadBefore : Heads → Option ℕ → Option ℕ → Type 0
-IsUnreadBefore heads next None = (k : ℕ) (head : Head) → IsPassed next k → head_at k heads ≡ Some head → is_record k head ≡ true
-IsUnreadBefore heads next (Some key) = (head : Head) × (head_at key heads ≡ Some head) × (is_record key head ≡ false) × AreReadBelow heads key
+abbrev pub IsUnreadBefore : RecordHeads → Option ℕ → Option ℕ → Type 0
+IsUnreadBefore heads next None = (k : ℕ) (head : RecordHead) → IsPassed next k → head_at k heads ≡ Some head → is_record k head ≡ true
+IsUnreadBefore heads next (Some key) = (head : RecordHead) × (head_at key heads ≡ Some head) × (is_record key head ≡ false) × AreReadBelow heads key
 
-pub unread_at_end : (heads : Heads) (unread : Option ℕ) → IsUnreadBefore heads None unread → IsUnread heads unread
+pub unread_at_end : (heads : RecordHeads) (unread : Option ℕ) → IsUnreadBefore heads None unread → IsUnread heads unread
 unread_at_end heads None is = λ k head at. is k head (λ n e. cc) at
 unread_at_end heads (Some key) is = is
 
-pub unread_first : (heads : Heads) (next : Option ℕ) → Sorted heads → next ≡ find (λ k. not (nat_lt k 0)) (keys_of heads) → IsUnreadBefore heads next None
+pub unread_first : (heads : RecordHeads) (next : Option ℕ) → Sorted heads → next ≡ find (λ k. not (nat_lt k 0)) (keys_of heads) → IsUnreadBefore heads next None
 unread_first heads next sorted is k head passed at =
     let none : head_at k heads ≡ None = none_first k heads sorted (λ n e. passed n (is ∙ e)) in
     let both : None ≡ Some head = sym none ∙ at in cc
 
-module _ (heads : Heads) (sorted : Sorted heads) (key : ℕ) (head : Head) (is : head_at key heads ≡ Some head) where
+module _ (heads : RecordHeads) (sorted : Sorted heads) (key : ℕ) (head : RecordHead) (is : head_at key heads ≡ Some head) where
   -- one more that is read, or the first that isn't
   pub unread_next : (unread : Option ℕ) → IsUnreadBefore heads (Some key) unread → IsUnreadBefore heads (next_of key heads) (noted unread key (is_record key head))
   unread_next (Some first) before = before
@@ -104,7 +104,7 @@ module _ (heads : Heads) (sorted : Sorted heads) (key : ℕ) (head : Head) (is :
       by_test false bad = (head, is, bad, λ k other lt at. before k other (λ n e. some_key n k lt e) at)
 
   -- what the record stands for is put before what is left
-  pub put_before : {X : Type 0} (f : ℕ × Head → Option X) (so_far : List X) (all : List X) → so_far ++ filter_map f (rest_of (Some key) heads) ≡ all
+  pub put_before : {X : Type 0} (f : ℕ × RecordHead → Option X) (so_far : List X) (all : List X) → so_far ++ filter_map f (rest_of (Some key) heads) ≡ all
       → (so_far ++ option_to_list (f (key, head))) ++ filter_map f (rest_of (next_of key heads) heads) ≡ all
   put_before {X = X} f so_far all before = by_value (f (key, head)) ∙ ap (λ xs. so_far ++ filter_map f xs) (sym (onward key head heads sorted is)) ∙ before
     where
@@ -117,7 +117,7 @@ abbrev pub to_go : Option ℕ → ℕ
 to_go None = 0
 to_go (Some k) = 2 ^ 64 - k
 
-pub goes : (key : ℕ) (heads : Heads) → key < 2 ^ 64 → to_go (next_of key heads) < to_go (Some key)
+pub goes : (key : ℕ) (heads : RecordHeads) → key < 2 ^ 64 → to_go (next_of key heads) < to_go (Some key)
 goes key heads small = by_next (next_of key heads) (λ k e. next_above key k heads e)
   where
     by_next : (o : Option ℕ) → ((k : ℕ) → o ≡ Some k → key < k) → to_go o < to_go (Some key)

@@ -21,21 +21,21 @@ use Rattle.tm_store_records.specs.Found.{machine_in, nodes_in, snapshots_in}
 use Rattle.tm_store_records.specs.Rules.{IsGoodStore}
 use Rattle.tm_store_records.specs.Tags.{tag_of, FitsTag}
 use Rattle.tm_store_records.specs.States.{LeavesStore, snapshot_on, files_in}
-use Rattle.tm_store_records.specs.Held.{Held, IsWhole, MayFinish, store_on, stored_on, files_of}
+use Rattle.tm_store_records.specs.Held.{Held, IsWhole, MayFinish, store_on, store_stored_on, files_of}
 use Rattle.tm_store_records.proofs.Storing.{store_is, files_are}
 use Rattle.tm_store_records.proofs.Leaving.{leaves_store}
 
 -- a run that leaves the old tag or this one leaves the store with the one date or the other
 pub retagged : (h : Held) (old new : Log) (date : Option ℕ) → IsWhole h → FitsTag date h.number
     → Runs h.image.side (LeavesOneOf h.image.side (entries_of (disk h.image.side (now old)).bytes h.image.records) h.image.root.tag (entries_of (disk h.image.side (now old)).bytes h.image.records) (tag_of date h.number)) old new
-    → Runs Store (LeavesStore (stored_on h (disk Store (now old)).bytes) (record { store = store_on h (disk Store (now old)).bytes; running = date })) old new
+    → Runs Store (LeavesStore (store_stored_on h (disk Store (now old)).bytes) (record { store = store_on h (disk Store (now old)).bytes; running = date })) old new
 retagged h old new date whole fits runs =
     let bytes = (disk Store (now old)).bytes in
     let entries = entries_of bytes h.image.records in
     let here : Runs Store (LeavesOneOf Store entries h.image.root.tag entries (tag_of date h.number)) old new
     = subst (λ (s : Side). Runs s (LeavesOneOf s (entries_of (disk s (now old)).bytes h.image.records) h.image.root.tag (entries_of (disk s (now old)).bytes h.image.records) (tag_of date h.number)) old new) whole.side runs in
     let is = store_is h bytes whole in
-    Runs-weaker Store _ _ old new (λ d. leaves_store entries entries h.image.root.tag (tag_of date h.number) (stored_on h bytes) (record { store = store_on h bytes; running = date }) whole.tag whole.fits is refl fits is Store refl d) here
+    Runs-weaker Store _ _ old new (λ d. leaves_store entries entries h.image.root.tag (tag_of date h.number) (store_stored_on h bytes) (record { store = store_on h bytes; running = date }) whole.tag whole.fits is refl fits is Store refl d) here
 
 -- equal data on two disks: the store is the same
 pub same_store : (h k : Held) (x y : ℕ → List ℕ) → k.machine ≡ h.machine → k.number ≡ h.number → k.nodes ≡ h.nodes → k.snapshots ≡ h.snapshots → k.image.records ≡ h.image.records

@@ -41,8 +41,8 @@ use Rattle.tm_store_records.specs.Heads.{heads_of}
 use Rattle.tm_store_records.specs.Found.{node_key, node_in, nodes_in, snapshots_in, roots_of}
 use Rattle.tm_store_records.specs.Held.{files_of}
 use Rattle.tm_store_records.specs.Laws.{GoodIsStore, HeldIsStore, HeldFiles, HeldLengths, HeldSizes, SizesAreTold, TableIsTold, DataIsTold}
-use Rattle.tm_store_records.specs.Room.{row_of, snapshot_len, node_len, record_len}
-use Rattle.tm_store_records.specs.Sizes.{entries_at, item_len, snapshot_row, snapshot_text_len, trees_in, store_of}
+use Rattle.tm_store_records.specs.Room.{row_of_snapshot, snapshot_len, node_len, record_len}
+use Rattle.tm_store_records.specs.Sizes.{entries_beneath, labelled_len, snapshot_row, snapshot_text_len, trees_in, store_of}
 use Rattle.tm_store_records.specs.States.{item_on, labelled_on, snapshot_on}
 use Rattle.tm_store_records.proofs.Noding.{NodesAreFound}
 use Rattle.tm_store_records.proofs.Reading.{head_of, heads_sorted}
@@ -78,7 +78,7 @@ unfolding entries_text
 entries-len es = omega (arith, length-append (u32_text (length es)) (flat_map child_text es), length-u32_text (length es), children-len es)
 
 -- the entries that a tree has at a path have its names
-names_at : (t : LabelledTree) (p : Names) → map (λ c. c.name) (entries_at t p) ≡ names_in t p
+names_at : (t : LabelledTree) (p : Names) → map (λ c. c.name) (entries_beneath t p) ≡ names_in t p
 names_at t p = of (children t p)
   where
     of : (rows : LabelledTree) → map (λ (c : Child). c.name) (map (λ row. record { name = last_of row.0; node = 0 }) rows) ≡ map (λ row. last_of row.0) rows
@@ -87,17 +87,17 @@ names_at t p = of (children t p)
 
 module _ (t : LabelledTree) (p : Names) (bytes : List ℕ) (label links : ℕ) where
   abbrev Alike : NodeBody → Type 0
-  Alike body = item_len t p (record { label = label; item = item_on bytes body }) ≡ node_len (record { label = label; links = links; body = body })
+  Alike body = labelled_len t p (record { label = label; item = item_on bytes body }) ≡ node_len (record { label = label; links = links; body = body })
 
   row_alike : (body : NodeBody) → length (bytes_of (item_on bytes body)) ≡ body_length body → ((attrs : _) (es : List Child) → body ≡ Folder attrs es → names_in t p ≡ map (λ c. c.name) es) → Alike body
   row_alike (Folder attrs es) size named =
       let names = names_at t p ∙ named attrs es refl in
-      let same : length (node_text (record { label = label; links = 0; body = Folder attrs (entries_at t p) })) ≡ length (node_text (record { label = label; links = links; body = Folder attrs es }))
+      let same : length (node_text (record { label = label; links = 0; body = Folder attrs (entries_beneath t p) })) ≡ length (node_text (record { label = label; links = links; body = Folder attrs es }))
       = omega (
         arith,
-        kind-part (record { label = label; links = 0; body = Folder attrs (entries_at t p) }),
+        kind-part (record { label = label; links = 0; body = Folder attrs (entries_beneath t p) }),
         kind-part (record { label = label; links = links; body = Folder attrs es }),
-        entries-len (entries_at t p),
+        entries-len (entries_beneath t p),
         entries-len es,
         ap (λ (ns : List (List ℕ)). sum_by name_cost ns) names,
       ) in
@@ -149,7 +149,7 @@ module _ (files : ℕ → List ℕ) (g : Nodes) where
         sum_by-cons snapshot_len s ss,
         heads-len ss,
         snapshot-part (snapshot_row (snapshot_on files g s)),
-        snapshot-part (row_of s),
+        snapshot-part (row_of_snapshot s),
       )
 
   trees-are : (ss : List Snapshot) → map (λ s. s.tree) (map (snapshot_on files g) ss) ≡ trees_of (labelled_on files) g (roots_of ss)
@@ -160,7 +160,7 @@ module _ (files : ℕ → List ℕ) (g : Nodes) where
   labels n row e = refl
 
   module _ (roots : List ℕ) (st : IsStore g roots) (long : Lengths (labelled_on files) g) where
-    weighs : WeighsAt (labelled_on files) g roots item_len node_len
+    weighs : WeighsAt (labelled_on files) g roots labelled_len node_len
     weighs r n p row at e = row_alike (rows_of (labelled_on files) g r) p (files n) row.label row.links row.body (long n row e)
         (λ attrs es is. names_are (labelled_on files) g st.graph r n p row at.1 e ∙ ap (λ (b : NodeBody). map (λ (c : Child). c.name) (entries_of (record row { body = b }))) is)
 
@@ -173,10 +173,10 @@ sizes_told sums stored machine number files g snapshots st long =
     let roots = roots_of snapshots in
     let v = labelled_on files in
     let trees = trees-are files g snapshots in
-    let items = sums v g roots item_len node_len (labels files g) st (weighs files g roots st long) in
+    let items = sums v g roots labelled_len node_len (labels files g) st (weighs files g roots st long) in
     let blobs = sums v g roots (λ t p l. blob_len (item_length l)) (λ row. blob_len (node_length row)) (labels files g) st (data_weighs files g roots st long) in
     record {
-      table = ap blocks_for (omega (arith, heads-len files g snapshots, ap (λ (ts : List LabelledTree). sum_over item_len ts) trees, items));
+      table = ap blocks_for (omega (arith, heads-len files g snapshots, ap (λ (ts : List LabelledTree). sum_over labelled_len ts) trees, items));
       blobs = once_over (λ l. blob_len (item_length l)) (trees_in (store_of machine number files g snapshots)) ∙ ap (λ (ts : List LabelledTree). sum_over (λ t p l. blob_len (item_length l)) ts) trees ∙ blobs;
       nodes = ap (λ (ts : List LabelledTree). identity_count ts) trees ∙ (stored v g roots (labels files g) st).1;
     }

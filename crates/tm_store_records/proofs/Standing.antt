@@ -1,5 +1,5 @@
 -- What stands is read, and an image reads as one store at most.
-use Rattle.std.proofs.Common.{◌≡◌, ℕ, ◌^◌, ◌<◌, ◌≤◌, List, ◌++◌, get_or, drop, map, replicate, Option, Some, None, IfSome, refl, sym, ◌∙◌, ap, subst, arith, append_assoc}
+use Rattle.std.proofs.Common.{◌≡◌, ℕ, ◌^◌, ◌<◌, ◌≤◌, List, ◌++◌, get_or, drop, map, replicate, Option, Some, None, IfSome, refl, sym, ◌∙◌, ap, arith, append_assoc}
 use Rattle.tm_codec.specs.Fields.{u64_text}
 use Rattle.tm_codec.proofs.Fields.{apart-u64}
 use Rattle.tm_gate.specs.Tag.{store_tag, latest}
@@ -10,15 +10,15 @@ use Rattle.tm_world.specs.declared.world.Side.TheVariants.{Store}
 use Rattle.tm_store_records.specs.Heads.{heads_in}
 use Rattle.tm_store_records.specs.Found.{machine_in, nodes_in, snapshots_in}
 use Rattle.tm_store_records.specs.Tags.{tag_of, FitsTag}
-use Rattle.tm_store_records.specs.States.{StoredStore, StoreIs, StoreReads, snapshot_on, files_in}
-use Rattle.tm_store_records.specs.Held.{stored_on}
+use Rattle.tm_store_records.specs.States.{StoreIs, snapshot_on, files_in}
+use Rattle.tm_store_records.specs.Held.{store_stored_on}
 use Rattle.tm_store_records.specs.Laws.{HeldReads, OneStoreReads}
 use Rattle.tm_store_records.proofs.Leaving.{leaves_one_store}
 use Rattle.tm_store_records.proofs.Storing.{store_is}
 
 pub held_reads : StandingIsLeft → HeldReads
 held_reads left h disk image whole stands leftover =
-    leaves_one_store (entries_of disk.bytes h.image.records) h.image.root.tag (stored_on h disk.bytes) whole.tag whole.fits (store_is h disk.bytes whole) h.image.side whole.side disk
+    leaves_one_store (entries_of disk.bytes h.image.records) h.image.root.tag (store_stored_on h disk.bytes) whole.tag whole.fits (store_is h disk.bytes whole) h.image.side whole.side disk
     (left h.image disk whole.sound whole.settled whole.space stands) image leftover
 
 -- ---- a tag is spelled by its bytes

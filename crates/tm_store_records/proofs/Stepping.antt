@@ -6,18 +6,18 @@ use Rattle.std.specs.Ordering.{nat_cmp, ordering_then, is_eq}
 use Rattle.std.specs.BTreeMap.{is_at}
 use Rattle.std.proofs.lemmas.Cmp.{nat_cmp_total, nat_list_cmp_total, tied_itself}
 use Rattle.tm_base.specs.Paths.{Names, name_cmp}
-use Rattle.tm_graph.proofs.Named.{name_is}
-use Rattle.tm_store_records.specs.declared.spots.Step.{Step}
-use Rattle.tm_store_records.specs.Spotted.{step_cmp, Leads, Extends, ArePaths}
+use Rattle.tm_graph.proofs.ChildLemmas.{name_is}
+use Rattle.tm_store_records.specs.declared.locations.Step.{Step}
+use Rattle.tm_store_records.specs.Located.{step_cmp, StepLeads, Extends, AreNumberedPaths}
 use Rattle.tm_store_records.proofs.Placed.{equal_is}
 
-pub lead_known : (old new : Step → Option ℕ) (count : ℕ) (s : Step) (id : ℕ) → ((q : Step) → new q ≡ old q) → Some id ≡ old s → Leads old new count count s id
+pub lead_known : (old new : Step → Option ℕ) (count : ℕ) (s : Step) (id : ℕ) → ((q : Step) → new q ≡ old q) → Some id ≡ old s → StepLeads old new count count s id
 lead_known old new count s id same is = record {
   known = λ i e. (let both : Some id ≡ Some i = is ∙ e in let ids : id ≡ i = cc in (ids, refl, same));
   fresh = λ none. absurd (let both : Some id ≡ None = is ∙ none in cc);
 }
 
-pub lead_fresh : (old new : Step → Option ℕ) (count : ℕ) (s : Step) → None ≡ old s → ((q : Step) → new q ≡ cond (is_at (step_cmp s) q) (Some count) (old q)) → Leads old new count (count + 1) s count
+pub lead_fresh : (old new : Step → Option ℕ) (count : ℕ) (s : Step) → None ≡ old s → ((q : Step) → new q ≡ cond (is_at (step_cmp s) q) (Some count) (old q)) → StepLeads old new count (count + 1) s count
 lead_fresh old new count s none put = record {
   known = λ i e. absurd (let both : None ≡ Some i = none ∙ e in cc);
   fresh = λ e. (refl, refl, put);
@@ -77,12 +77,12 @@ last_same (a ∷ p) (b ∷ q) x y e =
 -- the paths with the one to which a step leads
 pub record Longer (paths : List Names) (ids : Step → Option ℕ) (count id : ℕ) (p : Names) : Type 0 where
   pub longer : List Names
-  pub numbered : ArePaths longer ids count
+  pub numbered : AreNumberedPaths longer ids count
   pub keeps : (i : ℕ) (q : Names) → slice_get paths i ≡ Some q → slice_get longer i ≡ Some q
   pub is : slice_get longer id ≡ Some p
 
 module _ (paths : List Names) (ids new : Step → Option ℕ) (count after : ℕ) (s : Step) (id : ℕ) (p : Names)
-    (are : ArePaths paths ids count) (here : slice_get paths s.path ≡ Some p) (leads : Leads ids new count after s id) where
+    (are : AreNumberedPaths paths ids count) (here : slice_get paths s.path ≡ Some p) (leads : StepLeads ids new count after s id) where
   known_longer : (i : ℕ) → ids s ≡ Some i → Longer paths new after id (p ++ s.name ∷ [])
   known_longer i e =
       let known = leads.known i e in
@@ -91,7 +91,7 @@ module _ (paths : List Names) (ids new : Step → Option ℕ) (count after : ℕ
       let from : told.path ≡ p = (let both : Some told.path ≡ Some p = sym told.from ∙ here in cc) in
       record {
         longer = paths;
-        numbered = subst (λ n. ArePaths paths new n) (sym known.1) (subst (λ (f : Step → Option ℕ). ArePaths paths f count) (sym same) are);
+        numbered = subst (λ n. AreNumberedPaths paths new n) (sym known.1) (subst (λ (f : Step → Option ℕ). AreNumberedPaths paths f count) (sym same) are);
         keeps = λ k q is. is;
         is = ap (slice_get paths) known.0 ∙ told.to ∙ ap (λ (r : Names). Some (r ++ s.name ∷ [])) from;
       }

@@ -7,7 +7,7 @@ use Rattle.tm_records.specs.declared.record.Record.{Record}
 use Rattle.tm_records.specs.Records.{Records, at}
 use Rattle.tm_image.specs.Reads.{Entry, entry_of, entries_of}
 use Rattle.tm_graph.proofs.Same.{at-mapped}
-use Rattle.tm_store_records.specs.Heads.{Heads, heads_in, heads_of}
+use Rattle.tm_store_records.specs.Heads.{RecordHeads, heads_in, heads_of}
 use Rattle.tm_store_records.specs.Found.{node_key, machine_in, snapshots_in, nodes_in}
 use Rattle.tm_store_records.specs.Rules.{IsGoodStore}
 use Rattle.tm_store_records.specs.States.{files_in, snapshot_on, StoreIs}
@@ -41,10 +41,10 @@ module _ (h : Held) (bytes : ℕ → List ℕ) (whole : IsWhole h) where
   -- the store on this disk is what its entries are
   pub store_is : StoreIs (entries_of bytes h.image.records) (store_on h bytes)
   store_is = record {
-    good = subst (λ (heads : Heads). IsGoodStore heads h.number) heads_same whole.good;
-    machine = subst (λ (heads : Heads). machine_in heads ≡ Some h.machine) heads_same whole.machine_is;
+    good = subst (λ (heads : RecordHeads). IsGoodStore heads h.number) heads_same whole.good;
+    machine = subst (λ (heads : RecordHeads). machine_in heads ≡ Some h.machine) heads_same whole.machine_is;
     snapshots =
         ap (λ (files : ℕ → List ℕ). map (snapshot_on files h.nodes) h.snapshots) (sym (files_are h.image.records bytes))
         ∙ (λ i. map (snapshot_on (files_in (entries_of bytes h.image.records)) (whole.nodes_are i)) (whole.snapshots_are i))
-        ∙ ap (λ (heads : Heads). map (snapshot_on (files_in (entries_of bytes h.image.records)) (nodes_in heads)) (snapshots_in heads)) heads_same;
+        ∙ ap (λ (heads : RecordHeads). map (snapshot_on (files_in (entries_of bytes h.image.records)) (nodes_in heads)) (snapshots_in heads)) heads_same;
   }

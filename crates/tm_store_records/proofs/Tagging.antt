@@ -1,25 +1,25 @@
 -- The fields of a tag, read.
 use Rattle.std.proofs.Common.{◌≡◌, ℕ, zero, suc, ◌↔◌, ◌==◌, ◌^◌, ◌<◌, ◌≤◌, Bool, true, false, cond, get_or, List, Option, Some, None, refl, sym, ap, subst, ◌∙◌, arith}
 use Rattle.std.specs.Prelude.{IfSome, IsNone}
-use Rattle.tm_codec.specs.Places.{StandsAt}
+use Rattle.tm_codec.specs.Places.{IsTextAt}
 use Rattle.tm_codec.specs.Fields.{u64_text}
 use Rattle.tm_gate.specs.Tag.{store_tag, IsStoreTag, latest}
 use Rattle.tm_store_records.specs.Tags.{tag_of, FitsTag}
 
-date_at : (r d n : ℕ) → StandsAt (u64_text d) 8 (store_tag r d n)
+date_at : (r d n : ℕ) → IsTextAt (u64_text d) 8 (store_tag r d n)
 unfolding u64_text
 date_at r d n = refl
 
-number_at : (r d n : ℕ) → StandsAt (u64_text n) 16 (store_tag r d n)
+number_at : (r d n : ℕ) → IsTextAt (u64_text n) 16 (store_tag r d n)
 unfolding u64_text
 number_at r d n = refl
 
 module _ (tag : List ℕ) (t : IsStoreTag tag) where
-  pub reads_date : StandsAt (u64_text t.date) 8 tag
-  reads_date = subst (λ (bs : List ℕ). StandsAt (u64_text t.date) 8 bs) (sym t.is) (date_at t.running t.date t.number)
+  pub reads_date : IsTextAt (u64_text t.date) 8 tag
+  reads_date = subst (λ (bs : List ℕ). IsTextAt (u64_text t.date) 8 bs) (sym t.is) (date_at t.running t.date t.number)
 
-  pub reads_number : StandsAt (u64_text t.number) 16 tag
-  reads_number = subst (λ (bs : List ℕ). StandsAt (u64_text t.number) 16 bs) (sym t.is) (number_at t.running t.date t.number)
+  pub reads_number : IsTextAt (u64_text t.number) 16 tag
+  reads_number = subst (λ (bs : List ℕ). IsTextAt (u64_text t.number) 16 bs) (sym t.is) (number_at t.running t.date t.number)
 
   pub small_date : t.date < 2 ^ 64
   small_date = let h = t.date_most in omega (arith, h)

@@ -10,6 +10,7 @@ use Rattle.std.specs.Ordering.{nat_cmp}
 use Rattle.std.proofs.lemmas.Bool.Decides.{nat_tests}
 use Rattle.std.proofs.lemmas.List.Sums.{sum_by-cons}
 use Rattle.std.proofs.lemmas.Map.Views.{IfSome-lookup_from_All}
+use Rattle.tm_base.proofs.Facts.{both_true}
 use Rattle.tm_chain.specs.Blob.{blob_len}
 use Rattle.tm_records.specs.declared.record.Record.{Record}
 use Rattle.tm_records.specs.Records.{Records, at}
@@ -30,13 +31,13 @@ use Rattle.tm_nodes.specs.Nodes.{node_text, HasNodeSize}
 use Rattle.tm_nodes.specs.Records.{machine_of, snapshot_of, node_of}
 use Rattle.tm_identity.specs.Stored.{node_length}
 use Rattle.tm_store_records.specs.declared.snapshot.Snapshot.{Snapshot}
-use Rattle.tm_store_records.specs.Heads.{Head, heads_of}
-use Rattle.tm_store_records.specs.Found.{is_snapshot_key, is_node_key, numbered, snapshot_in, node_in, machine_in, snapshots_in, nodes_in}
+use Rattle.tm_store_records.specs.Heads.{RecordHead, heads_of}
+use Rattle.tm_store_records.specs.Found.{is_snapshot_key, is_node_key, numbered_snapshot, snapshot_in, node_in, machine_in, snapshots_in, nodes_in}
 use Rattle.tm_store_records.specs.Rules.{most_of, reads_node, is_record, IsGoodStore}
-use Rattle.tm_store_records.specs.Room.{row_of, snapshot_len, node_len, record_len, store_len}
+use Rattle.tm_store_records.specs.Room.{row_of_snapshot, snapshot_len, node_len, record_len, store_len}
 use Rattle.tm_store_records.specs.Laws.{TextIsTold, TableIsTold}
-use Rattle.tm_store_records.proofs.Onward as onward
-use Rattle.tm_store_records.proofs.Onward.{Sorted, at_same, at_other, tail_sorted, head_above, none_below, le_true, lt_false}
+use Rattle.tm_store_records.proofs.NextKeyLemmas as onward
+use Rattle.tm_store_records.proofs.NextKeyLemmas.{Sorted, at_same, at_other, tail_sorted, head_above, none_below, le_true, lt_false}
 use Rattle.tm_store_records.proofs.Reading.{head_of, head-at}
 use Rattle.tm_store_records.proofs.Noding.{NodesAreFound}
 
@@ -47,7 +48,7 @@ abbrev pub MachinesAreFound : Type 0
 MachinesAreFound = FindsSpelled machine_of machine_text IsName
 
 -- a record with its key, as the rules see it
-abbrev pub seen : ℕ × Record → ℕ × Head
+abbrev pub seen : ℕ × Record → ℕ × RecordHead
 seen e = (e.0, head_of e.1)
 
 -- ---- what a record is, by its key
@@ -63,7 +64,7 @@ pub record IsSnapshotOf (e : ℕ × Record) : Type 0 where
   pub low : is_node_key e.0 ≡ false
   pub snapshot : Snapshot
   pub is : snapshot_in (seen e) ≡ Some snapshot
-  pub meta : e.1.meta ≡ snapshot_text (row_of snapshot)
+  pub meta : e.1.meta ≡ snapshot_text (row_of_snapshot snapshot)
   pub empty : e.1.length ≡ 0
 
 -- a node's
@@ -78,10 +79,6 @@ pub record IsNodeOf (e : ℕ × Record) : Type 0 where
 
 abbrev pub IsOne : ℕ × Record → Type 0
 IsOne e = IsFirst e ⊎ IsSnapshotOf e ⊎ IsNodeOf e
-
-both_true : (a b : Bool) → (a && b) ≡ true → (a ≡ true) × (b ≡ true)
-both_true true b h = (refl, h)
-both_true false b h = absurd (cc h)
 
 is_zero : (n : ℕ) → (n == 0) ≡ true → n ≡ 0
 is_zero n h = grind (arith, nat_tests)
@@ -113,8 +110,8 @@ module _ (snapshots_found : SnapshotsAreFound) (nodes_found : NodesAreFound) (e 
       by_row (Some row) is some empty = record {
         other = other;
         low = snapshot_low e.0 t;
-        snapshot = numbered (e.0 - 2 ^ 40) row;
-        is = ap (λ b. cond b (option_map (numbered (e.0 - 2 ^ 40)) (snapshot_of e.1.meta)) None) t ∙ ap (option_map (numbered (e.0 - 2 ^ 40))) is;
+        snapshot = numbered_snapshot (e.0 - 2 ^ 40) row;
+        is = ap (λ b. cond b (option_map (numbered_snapshot (e.0 - 2 ^ 40)) (snapshot_of e.1.meta)) None) t ∙ ap (option_map (numbered_snapshot (e.0 - 2 ^ 40))) is;
         meta = ((snapshots_found e.1.meta row).0 is).spelled;
         empty = empty;
       }
@@ -188,7 +185,7 @@ module _ (cost : Record → ℕ) (snap : Snapshot → ℕ) (weight : NodeRow →
       omega (arith, at, snaps s, ap (λ o. option_map_or snap o 0) s.is, ap (λ o. option_map_or (λ x. weight x.1) o 0) no_node)
   fits e snaps nodes (inr (inr n)) =
       let at = ap (λ b. cond b (cost e.1) 0) (at_other 1 e.0 (λ same. n.other (sym same))) in
-      let none : snapshot_in (seen e) ≡ None = ap (λ b. cond b (option_map (numbered (e.0 - 2 ^ 40)) (snapshot_of e.1.meta)) None) n.high in
+      let none : snapshot_in (seen e) ≡ None = ap (λ b. cond b (option_map (numbered_snapshot (e.0 - 2 ^ 40)) (snapshot_of e.1.meta)) None) n.high in
       omega (arith, at, nodes n, ap (λ o. option_map_or snap o 0) none, ap (λ o. option_map_or (λ x. weight x.1) o 0) n.is)
 
   snap_more : (o : Option Snapshot) (ss : List Snapshot) → sum_by snap (cons_option o ss) ≡ option_map_or snap o 0 + sum_by snap ss

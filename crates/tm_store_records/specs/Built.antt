@@ -5,6 +5,7 @@ use Rattle.std.specs.Ordering.{nat_cmp}
 use Rattle.std.specs.BTreeMap.{is_at}
 use Rattle.std.specs.Map.{lookup}
 use Rattle.std.specs.Option.{option_map, unwrap_or}
+use Rattle.tm_base.specs.Limits.{max_file_bytes, max_names}
 use Rattle.tm_base.specs.Paths.{Names}
 use Rattle.tm_world.specs.declared.bytes.Blob.{Blob}
 use Rattle.tm_chain.specs.Blob.{bytes_in, blob_len}
@@ -42,19 +43,19 @@ pub record IsNew (h : Held) (built : Built) (e : ℕ × NodeRow) : Type 0 where
   pub label : e.1.label ≡ h.number
   pub attrs : IsAttrs (node_attrs e.1.body)
   pub tail : IsNodeTail e.1.body
-  pub size : node_length e.1 ≤ 16777216
+  pub size : node_length e.1 ≤ max_file_bytes
   pub children : (q : ℕ) → 0 < times q (entries_of e.1) → (q < e.0) × (is_some (node (all_nodes h built) q) ≡ true)
   pub place : Names
   pub stands : number_at (all_nodes h built) built.root place ≡ Some e.0
 
-abbrev pub file_length : NodeBody → Option ℕ
-file_length (Folder attrs entries) = None
-file_length (Leaf (File attrs stamp size)) = Some size
-file_length (Leaf (Link attrs stamp target)) = None
+abbrev pub built_length : NodeBody → Option ℕ
+built_length (Folder attrs entries) = None
+built_length (Leaf (File attrs stamp size)) = Some size
+built_length (Leaf (Link attrs stamp target)) = None
 
 -- the files among nodes, with their lengths
-abbrev pub lengths_of : Nodes → List (ℕ × ℕ)
-lengths_of nodes = filter_map (λ e. option_map (λ size. (e.0, size)) (file_length e.1.body)) nodes
+abbrev pub built_lengths : Nodes → List (ℕ × ℕ)
+built_lengths nodes = filter_map (λ e. option_map (λ size. (e.0, size)) (built_length e.1.body)) nodes
 
 -- the root of the last snapshot
 abbrev pub last_root : List Snapshot → Option ℕ
@@ -71,8 +72,8 @@ pub record IsBuilt (h : Held) (built : Built) : Type 0 where
   pub root : is_folder_node (node (all_nodes h built) built.root) ≡ true
   pub copied : (p : Names) (n : ℕ) → number_at (all_nodes h built) built.root p ≡ Some n → IsCopied h.nodes (all_nodes h built) h.number base p n
   pub once : (p q : Names) (n : ℕ) → number_at (all_nodes h built) built.root p ≡ Some n → number_at (all_nodes h built) built.root q ≡ Some n → greatest h.nodes < n → p ≡ q
-  pub short : (p : Names) (n : ℕ) → number_at (all_nodes h built) built.root p ≡ Some n → length p ≤ 64
-  pub files : map (λ b. (b.0, b.1.length)) built.blobs ≡ lengths_of built.nodes
+  pub short : (p : Names) (n : ℕ) → number_at (all_nodes h built) built.root p ≡ Some n → length p ≤ max_names
+  pub files : map (λ b. (b.0, b.1.length)) built.blobs ≡ built_lengths built.nodes
   pub filled : All (λ b. length b.1.blocks ≡ blob_len b.1.length) built.blobs
 
 -- ---- the store afterwards
@@ -91,8 +92,8 @@ abbrev pub snapshot_built : Held → Built → ℕ → List ℕ → ℕ → Mark
 snapshot_built h built date volume id mark = record { number = h.number; date = date; volume = volume; id = id; mark = mark; root = built.root }
 
 -- the store with it: the old snapshots, and one with the tree of what was built
-abbrev pub completed : Held → Built → ℕ → List ℕ → ℕ → Mark → (ℕ → List ℕ) → StoreState
-completed h built date volume id mark bytes = let s = store_on h bytes in record {
+abbrev pub store_completed : Held → Built → ℕ → List ℕ → ℕ → Mark → (ℕ → List ℕ) → StoreState
+store_completed h built date volume id mark bytes = let s = store_on h bytes in record {
   machine = s.machine;
   number = s.number + 1;
   snapshots = s.snapshots ++ snapshot_on (files_built h built bytes) (all_nodes h built) (snapshot_built h built date volume id mark) ∷ [];

@@ -5,27 +5,31 @@ use Rattle.std.specs.Ordering.{nat_cmp, ordering_then}
 use Rattle.std.specs.BTreeMap.{is_at}
 use Rattle.std.specs.List.Sorted.{IsStrictlySortedBy}
 use Rattle.std.specs.Map.{keys_of}
+use Rattle.tm_base.specs.Limits.{max_nodes, max_snapshots}
+use Rattle.tm_world.specs.declared.cause.Cause.TheVariants.{Record}
+use Rattle.tm_image.specs.declared.error.LoadError.{LoadError}
+use Rattle.tm_image.specs.declared.error.LoadError.TheVariants as load
 use Rattle.tm_tree.specs.declared.node.NodeRow.{NodeRow}
 use Rattle.tm_graph.specs.Nodes.{Nodes, node, entries_of, times, named}
 use Rattle.tm_store_records.specs.declared.snapshot.Snapshot.{Snapshot}
 use Rattle.tm_store_records.specs.declared.draft.Draft.{Draft}
-use Rattle.tm_store_records.specs.Heads.{Head, Heads, head_at}
-use Rattle.tm_store_records.specs.declared.spots.Spot.{Spot}
-use Rattle.tm_store_records.specs.declared.spots.Spot.TheVariants.{At, Apart}
+use Rattle.tm_store_records.specs.Heads.{RecordHead, RecordHeads, head_at}
+use Rattle.tm_store_records.specs.declared.locations.Location.{Location}
+use Rattle.tm_store_records.specs.declared.locations.Location.TheVariants.{At, Misplaced}
 use Rattle.tm_store_records.specs.declared.read.StoreError.{StoreError}
 use Rattle.tm_store_records.specs.declared.read.StoreError.TheVariants.{Bad, Memory}
 use Rattle.tm_store_records.specs.Found.{machine_in, snapshots_in, nodes_in, snapshot_key, node_key}
-use Rattle.tm_store_records.specs.Spotted.{AllRise}
+use Rattle.tm_store_records.specs.Located.{AllRise}
 use Rattle.tm_store_records.specs.Rules.{is_record, is_folder_node, IsGoodSnapshot, IsGoodNode}
 
 -- all records below a key are of a store's sections
-abbrev pub AreReadBelow : Heads → ℕ → Type 0
-AreReadBelow heads key = (k : ℕ) (head : Head) → k < key → head_at k heads ≡ Some head → is_record k head ≡ true
+abbrev pub AreReadBelow : RecordHeads → ℕ → Type 0
+AreReadBelow heads key = (k : ℕ) (head : RecordHead) → k < key → head_at k heads ≡ Some head → is_record k head ≡ true
 
 -- the least key whose record is none of a store's, if there is one
-abbrev pub IsUnread : Heads → Option ℕ → Type 0
-IsUnread heads None = (k : ℕ) (head : Head) → head_at k heads ≡ Some head → is_record k head ≡ true
-IsUnread heads (Some key) = (head : Head) × (head_at key heads ≡ Some head) × (is_record key head ≡ false) × AreReadBelow heads key
+abbrev pub IsUnread : RecordHeads → Option ℕ → Type 0
+IsUnread heads None = (k : ℕ) (head : RecordHead) → head_at k heads ≡ Some head → is_record k head ≡ true
+IsUnread heads (Some key) = (head : RecordHead) × (head_at key heads ≡ Some head) × (is_record key head ≡ false) × AreReadBelow heads key
 
 -- the key that is noted after one more
 abbrev pub noted : Option ℕ → ℕ → Bool → Option ℕ
@@ -35,7 +39,7 @@ noted (Some first) key good = Some first
 -- the rules of a snapshot at a place, after one with this date
 pub record IsSnapshotAfter (nodes : Nodes) (before : Option ℕ) (number place : ℕ) (s : Snapshot) : Type 0 where
   pub later : IfSome before (λ date. date < s.date)
-  pub few : place < 1024
+  pub few : place < max_snapshots
   pub least : 1 ≤ s.number
   pub most : s.number < number
   pub generation_least : 1 ≤ s.mark.generation
@@ -54,9 +58,9 @@ pub record IsFirstBadSnapshot (nodes : Nodes) (snapshots : List Snapshot) (numbe
 
 -- the rules of a node but those of where it stands
 pub record IsGoodAlone (nodes : Nodes) (roots : List ℕ) (number place n : ℕ) (row : NodeRow) : Type 0 where
-  pub few : place < 262144
+  pub few : place < max_nodes
   pub least : 1 ≤ n
-  pub most : n ≤ 262144 * (number - 1)
+  pub most : n ≤ max_nodes * (number - 1)
   pub label_least : 1 ≤ row.label
   pub label_most : row.label < number
   pub children : (q : ℕ) → 0 < times q (entries_of row) → (q < n) × (is_some (node nodes q) ≡ true)
@@ -68,10 +72,10 @@ abbrev pub pair_cmp : ℕ × ℕ → ℕ × ℕ → Ordering
 pair_cmp a b = ordering_then (nat_cmp a.0 b.0) (nat_cmp a.1 b.1)
 
 -- what is seen has this label and path more, if they were not seen before
-abbrev pub IsTaken : (ℕ × ℕ → Bool) → (ℕ × ℕ → Bool) → ℕ → Option Spot → Bool → Type 0
+abbrev pub IsTaken : (ℕ × ℕ → Bool) → (ℕ × ℕ → Bool) → ℕ → Option Location → Bool → Type 0
 IsTaken old new label None good = (good ≡ true) × ((q : ℕ × ℕ) → new q ≡ old q)
 IsTaken old new label (Some (At path depth)) good = (good ≡ not (old (label, path))) × ((q : ℕ × ℕ) → new q ≡ (if is_at (pair_cmp (label, path)) q then true else old q))
-IsTaken old new label (Some Apart) good = good ≡ false
+IsTaken old new label (Some Misplaced) good = good ≡ false
 
 -- the first node that breaks a rule stands at this place
 pub record IsFirstBadNode (nodes : Nodes) (roots : List ℕ) (number place : ℕ) : Type 0 where
@@ -96,7 +100,7 @@ pub record IsOrdered (snapshots : List Snapshot) (nodes : Nodes) : Type 0 where
   pub entries_few : (place : ℕ) (e : ℕ × NodeRow) → slice_get nodes place ≡ Some e → length (entries_of e.1) < 2 ^ 32
 
 -- a draft says what these heads stand for
-pub record Tells (draft : Draft) (heads : Heads) : Type 0 where
+pub record DraftTells (draft : Draft) (heads : RecordHeads) : Type 0 where
   pub machine : draft.machine ≡ machine_in heads
   pub snapshots : draft.snapshots.items ≡ snapshots_in heads
   pub nodes : draft.nodes.items ≡ nodes_in heads
@@ -111,23 +115,28 @@ lesser (Some a) None = Some a
 lesser (Some a) (Some b) = if nat_lt b a then Some b else Some a
 
 -- the least key at which a fact fails, if it fails at any
-abbrev pub IsLeastOf : (ℕ → Type 0) → Option ℕ → Type 0
-IsLeastOf Holds None = (key : ℕ) → Holds key
-IsLeastOf Holds (Some key) = (Holds key → ⊥) × ((k : ℕ) → k < key → Holds k)
+abbrev pub IsLeastFailing : (ℕ → Type 0) → Option ℕ → Type 0
+IsLeastFailing Holds None = (key : ℕ) → Holds key
+IsLeastFailing Holds (Some key) = (Holds key → ⊥) × ((k : ℕ) → k < key → Holds k)
 
-abbrev pub KeepsMachine : Heads → ℕ → Type 0
-KeepsMachine heads key = key ≡ 1 → is_some (machine_in heads) ≡ true
+abbrev pub MachineIsGoodAt : RecordHeads → ℕ → Type 0
+MachineIsGoodAt heads key = key ≡ 1 → is_some (machine_in heads) ≡ true
 
-abbrev pub KeepsReads : Heads → ℕ → Type 0
-KeepsReads heads key = (head : Head) → head_at key heads ≡ Some head → is_record key head ≡ true
+abbrev pub RecordIsGoodAt : RecordHeads → ℕ → Type 0
+RecordIsGoodAt heads key = (head : RecordHead) → head_at key heads ≡ Some head → is_record key head ≡ true
 
-abbrev pub KeepsSnapshot : Nodes → List Snapshot → ℕ → ℕ → Type 0
-KeepsSnapshot nodes snapshots number key = (place : ℕ) (s : Snapshot) → slice_get snapshots place ≡ Some s → snapshot_key s.number ≡ key → IsGoodSnapshot nodes snapshots number place s
+abbrev pub SnapshotsAreGoodAt : Nodes → List Snapshot → ℕ → ℕ → Type 0
+SnapshotsAreGoodAt nodes snapshots number key = (place : ℕ) (s : Snapshot) → slice_get snapshots place ≡ Some s → snapshot_key s.number ≡ key → IsGoodSnapshot nodes snapshots number place s
 
-abbrev pub KeepsNode : Nodes → List ℕ → ℕ → ℕ → Type 0
-KeepsNode nodes roots number key = (place : ℕ) (e : ℕ × NodeRow) → slice_get nodes place ≡ Some e → node_key e.0 ≡ key → IsGoodNode nodes roots number place e.0 e.1
+abbrev pub NodesAreGoodAt : Nodes → List ℕ → ℕ → ℕ → Type 0
+NodesAreGoodAt nodes roots number key = (place : ℕ) (e : ℕ × NodeRow) → slice_get nodes place ≡ Some e → node_key e.0 ≡ key → IsGoodNode nodes roots number place e.0 e.1
 
 -- ---- the answer of reading
+
+-- why the image of a store doesn't load
+abbrev pub load_error : StoreError → LoadError
+load_error (Bad key) = load.Bad Record key
+load_error Memory = load.Memory
 
 -- it is bad, at a key of which this holds
 abbrev pub IfBadStore : {X : Type 0} → Result X StoreError → (ℕ → Type 0) → Type 0

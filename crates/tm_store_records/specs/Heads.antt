@@ -6,22 +6,22 @@ use Rattle.std.specs.Map.{lookup}
 use Rattle.tm_records.specs.Records.{Records}
 use Rattle.tm_image.specs.Reads.{Entries}
 
-pub record Head : Type 0 where
+pub record RecordHead : Type 0 where
   pub meta : List ℕ
   pub size : ℕ
 
 -- each with its key, by rising key
-abbrev pub Heads : Type 0
-Heads = List (ℕ × Head)
+abbrev pub RecordHeads : Type 0
+RecordHeads = List (ℕ × RecordHead)
 
 -- those of what an image stands for
-abbrev pub heads_in : Entries → Heads
+abbrev pub heads_in : Entries → RecordHeads
 heads_in entries = map (λ e. (e.0, record { meta = e.1.meta; size = length e.1.bytes })) entries
 
 -- those of records in memory
-abbrev pub heads_of : Records → Heads
+abbrev pub heads_of : Records → RecordHeads
 heads_of records = map (λ e. (e.0, record { meta = e.1.meta; size = e.1.length })) records
 
 -- the one at a key
-abbrev pub head_at : ℕ → Heads → Option Head
+abbrev pub head_at : ℕ → RecordHeads → Option RecordHead
 head_at key heads = lookup (is_at (nat_cmp key)) heads

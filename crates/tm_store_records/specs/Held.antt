@@ -2,6 +2,7 @@
 use Rattle.std.specs.Prelude.{◌≡◌, ◌<◌, ◌^◌, ℕ, Option, Some, List, [], length, map}
 use Rattle.std.specs.List.{All}
 use Rattle.std.specs.Option.{option_map, unwrap_or}
+use Rattle.tm_base.specs.Limits.{max_snapshots}
 use Rattle.tm_world.specs.declared.world.Side.TheVariants.{Store}
 use Rattle.tm_chain.specs.Blob.{bytes_in}
 use Rattle.tm_records.specs.Records.{Records, at}
@@ -31,7 +32,7 @@ pub record Held : Type 0 where
 -- a backup of this date may finish
 pub record MayFinish (h : Held) (date : ℕ) : Type 0 where
   pub later : All (λ s. s.date < date) h.snapshots
-  pub few : length h.snapshots < 1024
+  pub few : length h.snapshots < max_snapshots
   pub number : h.number < 2 ^ 40
 
 -- what is in memory is what the image has, which keeps the rules; no commit is under way
@@ -62,5 +63,5 @@ store_on h bytes = record {
 }
 
 -- with the date that the tag has
-abbrev pub stored_on : Held → (ℕ → List ℕ) → StoredStore
-stored_on h bytes = record { store = store_on h bytes; running = h.stored }
+abbrev pub store_stored_on : Held → (ℕ → List ℕ) → StoredStore
+store_stored_on h bytes = record { store = store_on h bytes; running = h.stored }

@@ -4,6 +4,7 @@ use Rattle.std.specs.List.{All, sum_by}
 use Rattle.std.specs.List.Sorted.{IsStrictlySortedBy}
 use Rattle.std.specs.Ordering.{nat_cmp}
 use Rattle.std.specs.Map.{keys_of, values_of}
+use Rattle.tm_base.specs.Limits.{max_blocks}
 use Rattle.tm_world.specs.Disk.{Disk, Image, IsLeft}
 use Rattle.tm_chain.specs.Blob.{blob_len}
 use Rattle.tm_records.specs.Records.{Records}
@@ -16,17 +17,17 @@ use Rattle.tm_image.specs.Reads.{data_len}
 use Rattle.tm_image.specs.Seen.{Stands, IsKept}
 use Rattle.tm_image.specs.Room.{table_len}
 use Rattle.tm_store_records.specs.declared.snapshot.Snapshot.{Snapshot}
-use Rattle.tm_store_records.specs.Heads.{Heads, heads_of}
+use Rattle.tm_store_records.specs.Heads.{RecordHeads, heads_of}
 use Rattle.tm_store_records.specs.Found.{machine_in, nodes_in, snapshots_in, roots_of}
 use Rattle.tm_store_records.specs.Rules.{IsGoodStore}
 use Rattle.tm_store_records.specs.States.{StoredStore, StoreReads, labelled_on}
-use Rattle.tm_store_records.specs.Held.{Held, IsWhole, files_of, store_on, stored_on}
+use Rattle.tm_store_records.specs.Held.{Held, IsWhole, files_of, store_on, store_stored_on}
 use Rattle.tm_store_records.specs.Room.{store_len, store_blocks}
 use Rattle.tm_store_records.specs.Sizes.{store_of, HasSizes, IsSized}
 
 -- records that keep the rules: each identity has one node, and links are exact
 abbrev pub GoodIsStore : Type 0
-GoodIsStore = (heads : Heads) (number : ℕ) → number ≤ 2 ^ 40 → IsStrictlySortedBy nat_cmp (keys_of heads) → IsGoodStore heads number
+GoodIsStore = (heads : RecordHeads) (number : ℕ) → number ≤ 2 ^ 40 → IsStrictlySortedBy nat_cmp (keys_of heads) → IsGoodStore heads number
     → IsStore (nodes_in heads) (roots_of (snapshots_in heads))
 
 -- so the nodes of a store in memory are one
@@ -43,11 +44,11 @@ HeldLengths = (h : Held) (bytes : ℕ → List ℕ) → IsWhole h → Lengths (l
 
 -- what stands on a disk is what a stop leaves
 abbrev pub HeldReads : Type 0
-HeldReads = (h : Held) (disk : Disk) (image : Image) → IsWhole h → Stands h.image disk → IsLeft disk image → StoreReads image (stored_on h disk.bytes)
+HeldReads = (h : Held) (disk : Disk) (image : Image) → IsWhole h → Stands h.image disk → IsLeft disk image → StoreReads image (store_stored_on h disk.bytes)
 
 -- an image reads as one store at most
 abbrev pub OneStoreReads : Type 0
-OneStoreReads = (image : Image) (s t : StoredStore) → image.count ≤ 262144 → StoreReads image s → StoreReads image t → s ≡ t
+OneStoreReads = (image : Image) (s t : StoredStore) → image.count ≤ max_blocks → StoreReads image s → StoreReads image t → s ≡ t
 
 -- the length of the table's text is told by what the records stand for
 abbrev pub TextIsTold : Type 0

@@ -10,4 +10,4 @@ pub mod Room
 pub mod Sizes
 pub mod Laws
 pub mod Drafts
-pub mod Spotted
+pub mod Located

@@ -17,11 +17,11 @@ abbrev pub record_len : ℕ → ℕ → ℕ
 record_len meta size = 20 + meta + 4 * blob_len size
 
 -- what the record of a snapshot says
-abbrev pub row_of : Snapshot → SnapshotRow
-row_of s = record { date = s.date; id = s.id; mark = s.mark; volume = s.volume; root = s.root }
+abbrev pub row_of_snapshot : Snapshot → SnapshotRow
+row_of_snapshot s = record { date = s.date; id = s.id; mark = s.mark; volume = s.volume; root = s.root }
 
 abbrev pub snapshot_len : Snapshot → ℕ
-snapshot_len s = record_len (length (snapshot_text (row_of s))) 0
+snapshot_len s = record_len (length (snapshot_text (row_of_snapshot s))) 0
 
 abbrev pub node_len : NodeRow → ℕ
 node_len row = record_len (length (node_text row)) (node_length row)

@@ -31,8 +31,8 @@ use Rattle.tm_store_records.specs.States.{snapshot_on}
 -- ---- records, where each number of a node is 0: numbers take as many bytes
 
 -- the names in the folder at p, as entries
-abbrev pub entries_at : LabelledTree → Names → List Child
-entries_at t p = map (λ row. record { name = last_of row.0; node = 0 }) (children t p)
+abbrev pub entries_beneath : LabelledTree → Names → List Child
+entries_beneath t p = map (λ row. record { name = last_of row.0; node = 0 }) (children t p)
 
 -- what a node says of an item, of a folder with these entries
 abbrev pub body_with : List Child → Item → NodeBody
@@ -41,12 +41,12 @@ body_with entries (item.File attrs stamp bytes) = Leaf (File attrs stamp (length
 body_with entries (item.Link attrs stamp target) = Leaf (Link attrs stamp target)
 
 -- what the record of an item at p of a tree says
-abbrev pub row_at : LabelledTree → Names → Labelled → NodeRow
-row_at t p l = record { label = l.label; links = 0; body = body_with (entries_at t p) l.item }
+abbrev pub node_row_at : LabelledTree → Names → Labelled → NodeRow
+node_row_at t p l = record { label = l.label; links = 0; body = body_with (entries_beneath t p) l.item }
 
 -- what it takes of the table's text
-abbrev pub item_len : LabelledTree → Names → Labelled → ℕ
-item_len t p l = node_len (row_at t p l)
+abbrev pub labelled_len : LabelledTree → Names → Labelled → ℕ
+labelled_len t p l = node_len (node_row_at t p l)
 
 -- what the record of a snapshot says
 abbrev pub snapshot_row : StoredSnapshot → SnapshotRow
@@ -63,12 +63,12 @@ abbrev pub trees_in : StoreState → List LabelledTree
 trees_in s = map (λ snapshot. snapshot.tree) s.snapshots
 
 -- how many bytes the text of the table has: a record for the machine's name, for each snapshot and for each identity
-abbrev pub text_len : StoreState → ℕ
-text_len s = record_len (length (machine_text s.machine)) 0 + sum_by snapshot_text_len s.snapshots + sum_over item_len (trees_in s)
+abbrev pub store_text_len : StoreState → ℕ
+store_text_len s = record_len (length (machine_text s.machine)) 0 + sum_by snapshot_text_len s.snapshots + sum_over labelled_len (trees_in s)
 
 -- how many blocks the table takes
 abbrev pub table_blocks : StoreState → ℕ
-table_blocks s = blocks_for (text_len s)
+table_blocks s = blocks_for (store_text_len s)
 
 -- how many blocks the data take: those of each file identity
 abbrev pub data_blocks : StoreState → ℕ

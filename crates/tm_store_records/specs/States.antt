@@ -19,13 +19,13 @@ use Rattle.tm_tree.specs.declared.node.NodeRow.{NodeRow}
 use Rattle.tm_tree.specs.States.{StoreState, Snapshot as StoredSnapshot}
 use Rattle.tm_graph.specs.Nodes.{Nodes}
 use Rattle.tm_graph.specs.Trees.{rows_of}
-use Rattle.tm_image.specs.Reads.{Entries, Reads}
+use Rattle.tm_image.specs.Reads.{Entries, ReadsAsTable}
 use Rattle.tm_image.specs.Load.{Fails}
 use Rattle.tm_image.specs.Blank.{LacksMagic}
 use Rattle.tm_store_records.specs.declared.snapshot.Snapshot.{Snapshot}
 use Rattle.tm_store_records.specs.Heads.{heads_in}
 use Rattle.tm_store_records.specs.Found.{node_key, machine_in, snapshots_in, nodes_in}
-use Rattle.tm_store_records.specs.Rules.{IsGoodStore, IsLeastBad}
+use Rattle.tm_store_records.specs.Rules.{IsGoodStore, IsLeastBadKey}
 use Rattle.tm_store_records.specs.Tags.{tag_of, FitsTag}
 
 -- ---- trees
@@ -74,18 +74,18 @@ pub record StoreIs (entries : Entries) (s : StoreState) : Type 0 where
 -- an image reads as this store
 pub record StoreReads (image : Image) (s : StoredStore) : Type 0 where
   pub entries : Entries
-  pub reads : Reads Store entries (tag_of s.running s.store.number) image
+  pub reads : ReadsAsTable Store entries (tag_of s.running s.store.number) image
   pub fits : FitsTag s.running s.store.number
   pub is : StoreIs entries s.store
 
 -- an image stands for records of which this key is the first that is wrong
-pub record ReadsBad (image : Image) (key : ℕ) : Type 0 where
+pub record ReadsAsBadStore (image : Image) (key : ℕ) : Type 0 where
   pub entries : Entries
   pub running : Option ℕ
   pub number : ℕ
-  pub reads : Reads Store entries (tag_of running number) image
+  pub reads : ReadsAsTable Store entries (tag_of running number) image
   pub fits : FitsTag running number
-  pub least : IsLeastBad (heads_in entries) number key
+  pub least : IsLeastBadKey (heads_in entries) number key
 
 -- ---- what a stop leaves
 
@@ -115,5 +115,5 @@ StoreFails image Table place = Fails Store image.count image.bytes Table place
 StoreFails image Pages place = ⊥
 StoreFails image Block place = Fails Store image.count image.bytes Block place
 StoreFails image Room place = Fails Store image.count image.bytes Room place
-StoreFails image Record place = ReadsBad image place
+StoreFails image Record place = ReadsAsBadStore image place
 StoreFails image Spent place = ⊥

@@ -4,29 +4,27 @@ ghost use Rattle.std.specs.Option.{option_map, option_to_list};
 ghost use Rattle.std.specs.Map.{keys_of};
 ghost use Rattle.tm_records.specs.Records.{at};
 ghost use Rattle.tm_nodes.specs.Records.{machine_of, snapshot_of, node_of};
-ghost use Rattle.tm_store_records.specs.Heads.{Head, heads_of, head_at};
-ghost use Rattle.tm_store_records.specs.Found.{numbered, snapshot_in, node_in, machine_in, snapshots_in, nodes_in};
+ghost use Rattle.tm_store_records.specs.Heads.{RecordHead, heads_of, head_at};
+ghost use Rattle.tm_store_records.specs.Found.{numbered_snapshot, snapshot_in, node_in, machine_in, snapshots_in, nodes_in};
 ghost use Rattle.tm_store_records.specs.Rules.{most_of, reads_node, is_record};
 ghost use Rattle.tm_store_records.specs.Drafts.{IsUnread, noted};
 
 use crate::snapshot::Snapshot;
 use std::alloc::{AllocError, Global};
 use tm_base::Name;
+use tm_base::limits::MAX_FILE_BYTES;
 use tm_image::Image;
 use tm_nodes::{NodeError, read_machine, read_node, read_snapshot};
 use tm_tree::{LeafRow, NodeBody, NodeId, NodeRow};
 
 /// The key of a machine's name.
-pub(crate) const MACHINE_KEY: u64 = 1;
+pub const MACHINE_KEY: u64 = 1;
 
 /// The key of the snapshot 0, which there isn't.
-pub(crate) const SNAPSHOT_KEY: u64 = 1 << 40;
+pub const SNAPSHOT_KEY: u64 = 1 << 40;
 
 /// The key of the node 0, which there isn't.
-pub(crate) const NODE_KEY: u64 = 1 << 62;
-
-/// The most bytes of a file.
-const MOST_BYTES: u64 = 16_777_216;
+pub const NODE_KEY: u64 = 1 << 62;
 
 /// What records stand for: snapshots and nodes by rising number.
 #[derive(Drop)]
@@ -50,7 +48,7 @@ fn machine_name(alloc: Global, meta: &[u8]) -> Result<Option<Name>, AllocError>
 
 fn snapshot_row(alloc: Global, key: u64, meta: &[u8]) -> Result<Option<Snapshot>, AllocError>
     requires { 2 ^ 40 ≤ key }
-    ensures { IfOk result (λ snapshot. snapshot ≡ option_map (numbered (key - 2 ^ 40)) (snapshot_of meta.now)) }
+    ensures { IfOk result (λ snapshot. snapshot ≡ option_map (numbered_snapshot (key - 2 ^ 40)) (snapshot_of meta.now)) }
 {
     match read_snapshot(alloc, key, meta) {
         Ok(row) => Ok(Some(Snapshot {
@@ -81,7 +79,7 @@ fn most_of(row: &NodeRow) -> u64
     ensures { result ≡ most_of row.now.body }
 {
     match &row.body {
-        NodeBody::Leaf(LeafRow::File { .. }) => MOST_BYTES,
+        NodeBody::Leaf(LeafRow::File { .. }) => MAX_FILE_BYTES,
         _ => 0,
     }
 }
@@ -96,7 +94,7 @@ impl Draft {
         size: u64,
     ) -> Result<bool, AllocError>
         requires { 2 ^ 40 ≤ key }
-        ensures snapshots { OnOk result (self.new.snapshots.items ≡ self.old.snapshots.items ++ option_to_list (option_map (numbered (key - 2 ^ 40)) (snapshot_of meta.now))) }
+        ensures snapshots { OnOk result (self.new.snapshots.items ≡ self.old.snapshots.items ++ option_to_list (option_map (numbered_snapshot (key - 2 ^ 40)) (snapshot_of meta.now))) }
         ensures good { IfOk result (λ good. good ≡ (is_some (snapshot_of meta.now) && (size == 0))) }
         ensures nodes { self.new.nodes.items ≡ self.old.nodes.items }
         ensures machine { self.new.machine ≡ self.old.machine }

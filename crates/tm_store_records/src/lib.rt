@@ -5,14 +5,15 @@
 mod draft;
 mod laws;
 mod links;
+mod locations;
 mod lookups;
 mod node_rules;
 mod read;
 mod snapshot;
 mod snapshot_rules;
-mod spots;
 mod tag;
 
+pub use draft::{MACHINE_KEY, NODE_KEY, SNAPSHOT_KEY};
 pub use laws::{
     data_is_told, good_is_store, held_files, held_is_store, held_reads, held_sizes,
     one_store_reads, sizes_are_told, table_is_told, text_is_told,

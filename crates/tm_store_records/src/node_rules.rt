@@ -11,20 +11,18 @@ ghost use Rattle.tm_graph.specs.Nodes.{node, named};
 ghost use Rattle.tm_tree.specs.declared.node.NodeRow.{NodeRow};
 ghost use Rattle.tm_store_records.specs.Found.{roots_of};
 ghost use Rattle.tm_store_records.specs.Rules.{IsGoodNode};
-ghost use Rattle.tm_store_records.specs.Spotted.{AllRise};
+ghost use Rattle.tm_store_records.specs.Located.{AllRise};
 ghost use Rattle.tm_store_records.specs.Drafts.{IsGoodAlone, IsTaken, IsFirstBadNode, pair_cmp};
 
 use crate::links::count_links;
+use crate::locations::{Location, find_locations};
 use crate::lookups::find_node;
 use crate::snapshot::Snapshot;
-use crate::spots::{Spot, find_spots};
 use std::alloc::{AllocError, Global};
 use std::collections::{BTreeMap, BTreeSet};
+use tm_base::limits::MAX_NODES;
 use tm_graph::children_of;
 use tm_tree::{Child, NodeId, NodeRow};
-
-/// The most nodes of a store, and of a backup.
-const MOST_NODES: u64 = 262_144;
 
 /// Whether all these entries name nodes below a number.
 fn are_lower(nodes: &[(NodeId, NodeRow)], number: u64, children: &[Child]) -> bool
@@ -55,9 +53,9 @@ fn is_good_alone(
     let id = entry.0;
     let row = &entry.1;
     let links = counts.get(&id.0).copied().unwrap_or(0);
-    (place as u64) < MOST_NODES
+    (place as u64) < MAX_NODES
         && 1 <= id.0
-        && id.0 <= MOST_NODES * number.saturating_sub(1)
+        && id.0 <= MAX_NODES * number.saturating_sub(1)
         && 1 <= row.label
         && row.label < number
         && 1 <= row.links
@@ -65,19 +63,19 @@ fn is_good_alone(
         && are_lower(nodes, id.0, children_of(row))
 }
 
-/// Notes that a node with this label stands at this spot, and tells whether it stands at one path at
+/// Notes that a node with this label stands at this location, and tells whether it stands at one path at
 /// most, and is the first there with its label.
-fn take_spot(
+fn take_location(
     seen: &mut BTreeSet<(u64, u64)>,
     label: u64,
-    spot: Option<Spot>,
+    location: Option<Location>,
 ) -> Result<bool, AllocError>
-    ensures { IfOk result (IsTaken (λ q. contains pair_cmp seen.old q) (λ q. contains pair_cmp seen.new q) label spot) }
+    ensures { IfOk result (IsTaken (λ q. contains pair_cmp seen.old q) (λ q. contains pair_cmp seen.new q) label location) }
 {
-    match spot {
+    match location {
         None => Ok(true),
-        Some(Spot::Apart) => Ok(false),
-        Some(Spot::At { path, .. }) => Ok(seen.insert((label, path))?),
+        Some(Location::Misplaced) => Ok(false),
+        Some(Location::At { path, .. }) => Ok(seen.insert((label, path))?),
     }
 }
 
@@ -95,7 +93,7 @@ pub(crate) fn first_bad_node(
     ensures some { IfOk result (λ place. IfSome place (λ i. IsFirstBadNode nodes.now (roots_of snapshots.now) number i)) }
 {
     let counts = count_links(alloc, nodes, snapshots)?;
-    let spots = find_spots(alloc, nodes, snapshots)?;
+    let locations = find_locations(alloc, nodes, snapshots)?;
     let mut seen = BTreeSet::new(alloc);
     for (place, entry) in nodes.iter().enumerate() {
         if !is_good_alone(nodes, &counts, number, place, entry) {
@@ -103,7 +101,7 @@ pub(crate) fn first_bad_node(
         }
         let id = entry.0;
         let label = entry.1.label;
-        if !take_spot(&mut seen, label, spots.spots.get(&id.0).copied())? {
+        if !take_location(&mut seen, label, locations.locations.get(&id.0).copied())? {
             return Ok(Some(place));
         }
     }

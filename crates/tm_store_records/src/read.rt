@@ -1,10 +1,10 @@
 //! What the records of a store say, where they keep the rules.
 ghost use Rattle.std.specs.Prelude.{◌≡◌, ◌≤◌, ◌^◌, Some, None, true, is_some, if◌then◌else◌, IfOk};
 ghost use Rattle.tm_graph.specs.Nodes.{IsGraph};
-ghost use Rattle.tm_store_records.specs.Heads.{Heads, heads_of};
+ghost use Rattle.tm_store_records.specs.Heads.{RecordHeads, heads_of};
 ghost use Rattle.tm_store_records.specs.Found.{machine_in, snapshots_in, nodes_in, roots_of};
-ghost use Rattle.tm_store_records.specs.Rules.{Keeps, IsGoodStore, IsLeastBad};
-ghost use Rattle.tm_store_records.specs.Drafts.{lesser, IsOrdered, Tells, IsLeastOf, KeepsSnapshot, KeepsNode, IfBadStore};
+ghost use Rattle.tm_store_records.specs.Rules.{IsGoodKey, IsGoodStore, IsLeastBadKey};
+ghost use Rattle.tm_store_records.specs.Drafts.{lesser, IsOrdered, DraftTells, IsLeastFailing, SnapshotsAreGoodAt, NodesAreGoodAt, IfBadStore};
 
 use crate::draft::{Draft, MACHINE_KEY, NODE_KEY, SNAPSHOT_KEY, read_draft};
 use crate::node_rules::first_bad_node;
@@ -13,8 +13,9 @@ use crate::snapshot_rules::first_bad_snapshot;
 use std::alloc::{AllocError, Global};
 use tm_base::Name;
 use tm_graph::{Graph, NodeRows};
-use tm_image::Image;
+use tm_image::{Image, LoadError};
 use tm_nodes::spellings_are_found;
+use tm_world::Cause;
 
 /// What was read of the records of a store.
 #[derive(Drop)]
@@ -44,6 +45,23 @@ impl From<AllocError> for StoreError {
 
     fn from(_error: AllocError) -> StoreError {
         StoreError::Memory
+    }
+}
+
+impl From<StoreError> for LoadError {
+    ghost use Rattle.std.specs.Prelude.{◌≡◌};
+    ghost use Rattle.tm_store_records.specs.Drafts.{load_error};
+
+    ghost from_gives = { λ why error. error ≡ load_error why };
+
+    fn from(why: StoreError) -> LoadError {
+        match why {
+            StoreError::Bad(key) => LoadError::Bad {
+                cause: Cause::Record,
+                place: key,
+            },
+            StoreError::Memory => LoadError::Memory,
+        }
     }
 }
 
@@ -82,7 +100,7 @@ fn bad_machine(machine: &Option<Name>) -> Option<u64>
 /// The key of the first snapshot that breaks a rule, if one does.
 fn bad_snapshot(draft: &Draft, number: u64) -> Option<u64>
     requires { IsOrdered draft.now.snapshots.items draft.now.nodes.items }
-    ensures { IsLeastOf (KeepsSnapshot draft.now.nodes.items draft.now.snapshots.items number) result }
+    ensures { IsLeastFailing (SnapshotsAreGoodAt draft.now.nodes.items draft.now.snapshots.items number) result }
 {
     match first_bad_snapshot(&draft.nodes, &draft.snapshots, number) {
         Some(place) => Some(SNAPSHOT_KEY + draft.snapshots[place].number),
@@ -94,7 +112,7 @@ fn bad_snapshot(draft: &Draft, number: u64) -> Option<u64>
 fn bad_node(alloc: Global, draft: &Draft, number: u64) -> Result<Option<u64>, AllocError>
     requires number { number ≤ 2 ^ 40 }
     requires ordered { IsOrdered draft.now.snapshots.items draft.now.nodes.items }
-    ensures { IfOk result (IsLeastOf (KeepsNode draft.now.nodes.items (roots_of draft.now.snapshots.items) number)) }
+    ensures { IfOk result (IsLeastFailing (NodesAreGoodAt draft.now.nodes.items (roots_of draft.now.snapshots.items) number)) }
 {
     match first_bad_node(alloc, &draft.nodes, &draft.snapshots, number)? {
         Some(place) => {
@@ -109,7 +127,7 @@ fn bad_node(alloc: Global, draft: &Draft, number: u64) -> Result<Option<u64>, Al
 fn first_bad_key(alloc: Global, draft: &Draft, number: u64) -> Result<Option<u64>, AllocError>
     requires number { number ≤ 2 ^ 40 }
     requires ordered { IsOrdered draft.now.snapshots.items draft.now.nodes.items }
-    ensures { (heads : Heads) → Tells draft.now heads → IfOk result (IsLeastOf (Keeps heads number)) }
+    ensures { (heads : RecordHeads) → DraftTells draft.now heads → IfOk result (IsLeastFailing (IsGoodKey heads number)) }
 {
     let machine = bad_machine(&draft.machine);
     let snapshot = bad_snapshot(draft, number);
@@ -146,7 +164,7 @@ pub fn read_store(alloc: Global, image: &Image, number: u64) -> Result<Contents,
     ensures snapshots { IfOk result (λ c. c.snapshots ≡ snapshots_in (heads_of image.now.records)) }
     ensures nodes { IfOk result (λ c. c.nodes ≡ nodes_in (heads_of image.now.records)) }
     ensures good { IfOk result (λ _. IsGoodStore (heads_of image.now.records) number) }
-    ensures bad { IfBadStore result (IsLeastBad (heads_of image.now.records) number) }
+    ensures bad { IfBadStore result (IsLeastBadKey (heads_of image.now.records) number) }
 {
     records_are_ordered(image);
     let draft = read_draft(alloc, image)?;

@@ -10,10 +10,8 @@ ghost use Rattle.tm_store_records.specs.Drafts.{IsSnapshotAfter, IsFirstBadSnaps
 use crate::lookups::is_folder_at;
 use crate::snapshot::Snapshot;
 use tm_base::Moment;
+use tm_base::limits::MAX_SNAPSHOTS;
 use tm_tree::{NodeId, NodeRow};
-
-/// The most snapshots of a store.
-const MOST_SNAPSHOTS: usize = 1024;
 
 /// Generations and cursors are below this.
 const LIMIT: u64 = 1 << 62;
@@ -35,7 +33,7 @@ fn is_good(
         None => true,
     };
     is_later
-        && place < MOST_SNAPSHOTS
+        && place < MAX_SNAPSHOTS
         && 1 <= snapshot.number
         && snapshot.number < number
         && 1 <= snapshot.mark.generation

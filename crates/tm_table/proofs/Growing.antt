@@ -4,7 +4,7 @@ use Rattle.std.specs.Ordering.{nat_cmp, match_ordering}
 use Rattle.std.specs.Cmp.{nat_cmp_is}
 use Rattle.std.specs.declared.cmp.Ordering.TheVariants.{Greater}
 use Rattle.std.specs.BTreeMap.{insert_entry}
-use Rattle.tm_codec.specs.Places.{StandsAt}
+use Rattle.tm_codec.specs.Places.{IsTextAt}
 use Rattle.tm_records.specs.declared.record.Record.{Record}
 use Rattle.tm_records.specs.Records.{Records}
 use Rattle.tm_table.specs.Text.{record_text, table_text}
@@ -33,7 +33,7 @@ last_push before (d ∷ es) e = last_push (Some d.0) es e
 pub length_push : (es : Records) (e : ℕ × Record) → length (table_text (es ++ e ∷ [])) ≡ length (table_text es) + length (record_text e)
 length_push es e = ap length (table-append es (e ∷ [])) ∙ length-append (table_text es) (table_text (e ∷ [])) ∙ ap (λ t. length (table_text es) + length t) (table-one e)
 
-pub text_push : (es : Records) (e : ℕ × Record) (text : List ℕ) (at : ℕ) → at ≡ length (table_text es) → text ≡ table_text es ++ drop at text → StandsAt (record_text e) at text
+pub text_push : (es : Records) (e : ℕ × Record) (text : List ℕ) (at : ℕ) → at ≡ length (table_text es) → text ≡ table_text es ++ drop at text → IsTextAt (record_text e) at text
     → text ≡ table_text (es ++ e ∷ []) ++ drop (at + length (record_text e)) text
 text_push es e text at reaches is stands =
     is ∙ ap (λ r. table_text es ++ r) stands ∙ sym (append_assoc (table_text es) (record_text e) (drop (at + length (record_text e)) text))

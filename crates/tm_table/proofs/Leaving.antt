@@ -16,7 +16,7 @@ use Rattle.std.proofs.lemmas.List.Sorted.{searched}
 use Rattle.std.proofs.lemmas.List.Folds.{list_any_at, list_any_none}
 use Rattle.tm_records.specs.Records.{Records}
 use Rattle.tm_records.specs.Removes.{without}
-use Rattle.tm_table.proofs.Writing.{left, is_left}
+use Rattle.tm_table.proofs.Writing.{without_keys, is_left}
 
 -- what a search in rising keys finds
 pub among_is : (keys : List ℕ) (key : ℕ) (r : Result ℕ ℕ) → IsStrictlyIncreasing keys → IsBinarySearchResult (λ y. nat_cmp y key) keys r → is_ok r ≡ list_any (λ k. k == key) keys
@@ -65,7 +65,7 @@ remove_is k (e ∷ es) s = ⊎_elim
     ∙ sym (ap (λ b. cond (not b) (e ∷ filter (λ x. is_other k x.0) es) (filter (λ x. is_other k x.0) es)) (ne_eqb k e.0 ne)))
     (cases_eq k e.0)
 
-keys-filter : (p : ℕ → Bool) (es : Records) → keys_of (filter (λ e. p e.0) es) ≡ filter p (keys_of es)
+pub keys-filter : (p : ℕ → Bool) (es : Records) → keys_of (filter (λ e. p e.0) es) ≡ filter p (keys_of es)
 keys-filter p [] = refl
 keys-filter p (e ∷ es) =
     elim (p e.0) as (λ b. keys_of (cond b (e ∷ filter (λ x. p x.0) es) (filter (λ x. p x.0) es)) ≡ cond b (e.0 ∷ filter p (keys_of es)) (filter p (keys_of es))) [
@@ -73,20 +73,20 @@ keys-filter p (e ∷ es) =
       | false ↦ keys-filter p es
     ]
 
-left-none : (es : Records) → left [] es ≡ es
+left-none : (es : Records) → without_keys [] es ≡ es
 left-none [] = refl
 left-none (e ∷ es) = ap (λ (t : Records). e ∷ t) (left-none es)
 
-left-cons : (k : ℕ) (ks : List ℕ) (es : Records) → left (k ∷ ks) es ≡ left ks (filter (λ e. is_other k e.0) es)
+left-cons : (k : ℕ) (ks : List ℕ) (es : Records) → without_keys (k ∷ ks) es ≡ without_keys ks (filter (λ e. is_other k e.0) es)
 left-cons k ks [] = refl
 left-cons k ks (e ∷ es) =
-    elim (k == e.0) as (λ b. cond (not (b || list_any (λ x. x == e.0) ks)) (e ∷ left (k ∷ ks) es) (left (k ∷ ks) es) ≡ left ks (cond (not b) (e ∷ filter (λ x. is_other k x.0) es) (filter (λ x. is_other k x.0) es))) [
+    elim (k == e.0) as (λ b. cond (not (b || list_any (λ x. x == e.0) ks)) (e ∷ without_keys (k ∷ ks) es) (without_keys (k ∷ ks) es) ≡ without_keys ks (cond (not b) (e ∷ filter (λ x. is_other k x.0) es) (filter (λ x. is_other k x.0) es))) [
       | true ↦ left-cons k ks es
       | false ↦ ap (λ (t : Records). cond (is_left ks e) (e ∷ t) t) (left-cons k ks es)
     ]
 
 -- taken out one by one, or left out at once
-pub without-left : (ks : List ℕ) (es : Records) → IsStrictlySortedBy nat_cmp (keys_of es) → without ks es ≡ left ks es
+pub without-left : (ks : List ℕ) (es : Records) → IsStrictlySortedBy nat_cmp (keys_of es) → without ks es ≡ without_keys ks es
 without-left [] es s = sym (left-none es)
 without-left (k ∷ ks) es s =
     ap (without ks) (remove_is k es s)

@@ -1,5 +1,5 @@
-mod Writing
-mod Leaving
+pub mod Writing
+pub mod Leaving
 pub mod Standing
 mod Reading
 mod Growing

@@ -14,10 +14,10 @@ use Rattle.tm_table.specs.Text.{numbers, meta_text, record_text, table_text}
 abbrev pub is_left : List ℕ → ℕ × Record → Bool
 is_left keys e = not (list_any (λ k. k == e.0) keys)
 
-abbrev pub left : List ℕ → Records → Records
-left keys es = filter (is_left keys) es
+abbrev pub without_keys : List ℕ → Records → Records
+without_keys keys es = filter (is_left keys) es
 
-pub table-none : (keys : List ℕ) (text : List ℕ) → text ≡ [] → text ≡ table_text (left keys [])
+pub table-none : (keys : List ℕ) (text : List ℕ) → text ≡ [] → text ≡ table_text (without_keys keys [])
 unfolding table_text
 table-none keys text is = is
 
@@ -29,23 +29,23 @@ pub table-one : (e : ℕ × Record) → table_text (e ∷ []) ≡ record_text e
 unfolding table_text
 table-one e = append-nil (record_text e)
 
-filter-one : (p : ℕ × Record → Bool) (e : ℕ × Record) (b : Bool) → p e ≡ b → filter p (e ∷ []) ≡ filter (λ (x : ℕ × Record). b) (e ∷ [])
+pub filter-one : (p : ℕ × Record → Bool) (e : ℕ × Record) (b : Bool) → p e ≡ b → filter p (e ∷ []) ≡ filter (λ (x : ℕ × Record). b) (e ∷ [])
 filter-one p e b is = ap (λ c. cond c (e ∷ []) []) is
 
-left-push : (keys : List ℕ) (es : List (Bor ℕ × Bor Record)) (e : Bor ℕ × Bor Record) → left keys (map deref_pair (es ++ e ∷ [])) ≡ left keys (map deref_pair es) ++ left keys ((e.0.now, e.1.now) ∷ [])
-left-push keys es e = ap (left keys) (map-append deref_pair es (e ∷ [])) ∙ filter-append (is_left keys) (map deref_pair es) ((e.0.now, e.1.now) ∷ [])
+pub left-push : (keys : List ℕ) (es : List (Bor ℕ × Bor Record)) (e : Bor ℕ × Bor Record) → without_keys keys (map deref_pair (es ++ e ∷ [])) ≡ without_keys keys (map deref_pair es) ++ without_keys keys ((e.0.now, e.1.now) ∷ [])
+left-push keys es e = ap (without_keys keys) (map-append deref_pair es (e ∷ [])) ∙ filter-append (is_left keys) (map deref_pair es) ((e.0.now, e.1.now) ∷ [])
 
-pub table-kept : (keys : List ℕ) (es : List (Bor ℕ × Bor Record)) (e : Bor ℕ × Bor Record) (text new : List ℕ) → text ≡ table_text (left keys (map deref_pair es)) → is_left keys (e.0.now, e.1.now) ≡ true
-    → new ≡ text ++ record_text (e.0.now, e.1.now) → new ≡ table_text (left keys (map deref_pair (es ++ e ∷ [])))
+pub table-kept : (keys : List ℕ) (es : List (Bor ℕ × Bor Record)) (e : Bor ℕ × Bor Record) (text new : List ℕ) → text ≡ table_text (without_keys keys (map deref_pair es)) → is_left keys (e.0.now, e.1.now) ≡ true
+    → new ≡ text ++ record_text (e.0.now, e.1.now) → new ≡ table_text (without_keys keys (map deref_pair (es ++ e ∷ [])))
 table-kept keys es e text new so_far stays is =
-    is ∙ ap (λ t. t ++ record_text (e.0.now, e.1.now)) so_far ∙ ap (λ t. table_text (left keys (map deref_pair es)) ++ t) (sym (table-one (e.0.now, e.1.now)))
-    ∙ sym (table-append (left keys (map deref_pair es)) ((e.0.now, e.1.now) ∷ []))
-    ∙ ap table_text (ap (λ r. left keys (map deref_pair es) ++ r) (sym (filter-one (is_left keys) (e.0.now, e.1.now) true stays)) ∙ sym (left-push keys es e))
+    is ∙ ap (λ t. t ++ record_text (e.0.now, e.1.now)) so_far ∙ ap (λ t. table_text (without_keys keys (map deref_pair es)) ++ t) (sym (table-one (e.0.now, e.1.now)))
+    ∙ sym (table-append (without_keys keys (map deref_pair es)) ((e.0.now, e.1.now) ∷ []))
+    ∙ ap table_text (ap (λ r. without_keys keys (map deref_pair es) ++ r) (sym (filter-one (is_left keys) (e.0.now, e.1.now) true stays)) ∙ sym (left-push keys es e))
 
-pub table-skipped : (keys : List ℕ) (es : List (Bor ℕ × Bor Record)) (e : Bor ℕ × Bor Record) (text : List ℕ) → text ≡ table_text (left keys (map deref_pair es)) → is_left keys (e.0.now, e.1.now) ≡ false
-    → text ≡ table_text (left keys (map deref_pair (es ++ e ∷ [])))
+pub table-skipped : (keys : List ℕ) (es : List (Bor ℕ × Bor Record)) (e : Bor ℕ × Bor Record) (text : List ℕ) → text ≡ table_text (without_keys keys (map deref_pair es)) → is_left keys (e.0.now, e.1.now) ≡ false
+    → text ≡ table_text (without_keys keys (map deref_pair (es ++ e ∷ [])))
 table-skipped keys es e text so_far goes =
-    so_far ∙ ap table_text (sym (append-nil (left keys (map deref_pair es))) ∙ ap (λ r. left keys (map deref_pair es) ++ r) (sym (filter-one (is_left keys) (e.0.now, e.1.now) false goes)) ∙ sym (left-push keys es e))
+    so_far ∙ ap table_text (sym (append-nil (without_keys keys (map deref_pair es))) ∙ ap (λ r. without_keys keys (map deref_pair es) ++ r) (sym (filter-one (is_left keys) (e.0.now, e.1.now) false goes)) ∙ sym (left-push keys es e))
 
 joined : (o a b c d e t1 t2 t3 t4 t5 : List ℕ) → t1 ≡ o ++ a → t2 ≡ t1 ++ b → t3 ≡ t2 ++ c → t4 ≡ t3 ++ d → t5 ≡ t4 ++ e → t5 ≡ o ++ (a ++ (b ++ c) ++ d ++ e)
 joined o a b c d e t1 t2 t3 t4 t5 e1 e2 e3 e4 e5 =

@@ -1,6 +1,6 @@
 -- Where a table breaks a rule first.
 use Rattle.std.specs.Prelude.{◌≡◌, ◌<◌, ℕ, List, ◌++◌, length, drop, None}
-use Rattle.tm_codec.specs.Places.{StandsAt}
+use Rattle.tm_codec.specs.Places.{IsTextAt}
 use Rattle.tm_records.specs.declared.record.Record.{Record}
 use Rattle.tm_records.specs.Records.{Records}
 use Rattle.tm_table.specs.Text.{record_text, table_text}
@@ -14,4 +14,4 @@ pub record BreaksAt (total : ℕ) (text : List ℕ) (offset : ℕ) : Type 0 wher
   pub starts : text ≡ table_text records ++ drop offset text
   pub reaches : offset ≡ length (table_text records)
   pub goes_on : offset < length text
-  pub none : (e : ℕ × Record) → IsRecord total (last_key None records) e → StandsAt (record_text e) offset text → ⊥
+  pub none : (e : ℕ × Record) → IsRecord total (last_key None records) e → IsTextAt (record_text e) offset text → ⊥

@@ -20,8 +20,8 @@ fn push_numbers(out: &mut Vec<u8>, blocks: &[u32]) -> Result<(), Memory>
     Ok(())
 }
 
-/// Adds the text of one record.
-fn push_record(out: &mut Vec<u8>, key: u64, entry: &Record) -> Result<(), Memory>
+/// Adds the text of one record. Only want of memory can refuse it.
+pub fn push_record(out: &mut Vec<u8>, key: u64, entry: &Record) -> Result<(), Memory>
     requires { length entry.now.meta < 2 ^ 32 }
     ensures { OnOk result (out.new.items ≡ out.old.items ++ record_text (key, entry.now)) }
 {
@@ -34,8 +34,8 @@ fn push_record(out: &mut Vec<u8>, key: u64, entry: &Record) -> Result<(), Memory
     Ok(())
 }
 
-/// Whether a key is one of these, which rise.
-fn is_among(key: u64, keys: &[u64]) -> bool
+/// Whether a key is one of these, which rise. It takes no memory.
+pub fn is_among(key: u64, keys: &[u64]) -> bool
     requires { IsStrictlyIncreasing keys.now }
     ensures { result ≡ list_any (λ k. k == key) keys.now }
 {

@@ -1,7 +1,7 @@
 //! Reading one record of a table.
 ghost use Rattle.std.specs.Prelude.{◌≡◌, ◌+◌, ◌*◌, ◌<◌, ◌≤◌, ◌^◌, ℕ, List, Option, length, Err, IfOk, IsOkAnd, IsTrue, ◌↔◌};
 ghost use Rattle.std.specs.List.{All};
-ghost use Rattle.tm_codec.specs.Places.{StandsAt};
+ghost use Rattle.tm_codec.specs.Places.{IsTextAt};
 ghost use Rattle.tm_table.specs.Text.{numbers, meta_text, record_text};
 ghost use Rattle.tm_table.specs.Good.{IsAbove, IsRecord};
 ghost use Rattle.tm_records.specs.declared.record.Record.{Record};
@@ -22,9 +22,9 @@ pub(crate) struct Entry {
 
 /// The bytes of a meta after its length.
 fn get_meta(text: &[u8], at: usize) -> Result<&[u8], RecordError>
-    ensures stands { IfOk result (λ part. (length part.now < 2 ^ 32) × StandsAt (meta_text part.now) at text.now) }
+    ensures stands { IfOk result (λ part. (length part.now < 2 ^ 32) × IsTextAt (meta_text part.now) at text.now) }
     ensures fits { IfOk result (λ part. at + 4 + length part.now ≤ length text.now) }
-    ensures read { (part : List ℕ) → length part < 2 ^ 32 → StandsAt (meta_text part) at text.now → IsOkAnd result (λ got. got.now ≡ part) }
+    ensures read { (part : List ℕ) → length part < 2 ^ 32 → IsTextAt (meta_text part) at text.now → IsOkAnd result (λ got. got.now ≡ part) }
 {
     let count = get_u32(text, at)? as usize;
     if text.len() - (at + 4) < count {
@@ -52,8 +52,8 @@ fn read_blocks(
     requires small { count < 2 ^ 61 }
     ensures many { IfOk result (λ blocks. length blocks ≡ count) }
     ensures each { IfOk result (λ blocks. All (λ b. (3 ≤ b) × (b < total)) blocks) }
-    ensures stand { IfOk result (λ blocks. StandsAt (numbers blocks) at text.now) }
-    ensures bad { result ≡ Err RecordError.Bad → (blocks : List ℕ) → length blocks ≡ count → All (λ b. (3 ≤ b) × (b < total)) blocks → StandsAt (numbers blocks) at text.now → ⊥ }
+    ensures stand { IfOk result (λ blocks. IsTextAt (numbers blocks) at text.now) }
+    ensures bad { result ≡ Err RecordError.Bad → (blocks : List ℕ) → length blocks ≡ count → All (λ b. (3 ≤ b) × (b < total)) blocks → IsTextAt (numbers blocks) at text.now → ⊥ }
 {
     if (text.len() - at) / 4 < count {
         return Err(RecordError::Bad);
@@ -96,10 +96,10 @@ pub(crate) fn read_record(
 ) -> Result<Entry, RecordError>
     requires { at ≤ length text.now }
     ensures good { IfOk result (λ entry. IsRecord total before (entry.key, entry.record)) }
-    ensures stands { IfOk result (λ entry. StandsAt (record_text (entry.key, entry.record)) at text.now) }
+    ensures stands { IfOk result (λ entry. IsTextAt (record_text (entry.key, entry.record)) at text.now) }
     ensures end { IfOk result (λ entry. entry.end ≡ at + length (record_text (entry.key, entry.record))) }
     ensures fits { IfOk result (λ entry. (at < entry.end) × (entry.end ≤ length text.now)) }
-    ensures bad { result ≡ Err RecordError.Bad → (e : ℕ × Record) → IsRecord total before e → StandsAt (record_text e) at text.now → ⊥ }
+    ensures bad { result ≡ Err RecordError.Bad → (e : ℕ × Record) → IsRecord total before e → IsTextAt (record_text e) at text.now → ⊥ }
 {
     let key = get_u64(text, at)?;
     let meta = get_meta(text, at + 8)?;

@@ -8,7 +8,7 @@ mod error;
 mod laws;
 
 pub use decoding::decode;
-pub use encoding::encode;
+pub use encoding::{encode, is_among, push_record};
 pub use error::TableError;
 pub use laws::tables_are_one;
 

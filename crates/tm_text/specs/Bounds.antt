@@ -1,5 +1,6 @@
 -- Which values a line may hold.
 use Rattle.std.specs.Prelude.{◌≢◌, ℕ, ◌≤◌, ◌<◌, ◌^◌, List, All, IsUtf8, length}
+use Rattle.tm_base.specs.Limits.{max_names, max_value_bytes, max_target_bytes, max_events}
 use Rattle.tm_base.specs.Days.{last_moment}
 use Rattle.tm_base.specs.IsName.{IsName}
 use Rattle.tm_text.specs.declared.line.Line.{Line}
@@ -15,7 +16,7 @@ use Rattle.tm_text.specs.declared.place.Which.TheVariants as which
 
 -- at most 64 names
 abbrev pub IsValidPath : List (List ℕ) → Type 0
-IsValidPath path = All IsName path × (length path ≤ 64)
+IsValidPath path = All IsName path × (length path ≤ max_names)
 
 -- one byte or more
 abbrev pub IsValidText : List ℕ → Type 0
@@ -23,11 +24,11 @@ IsValidText text = (1 ≤ length text) × All (λ b. b < 256) text
 
 -- at most 4,096 bytes
 abbrev pub IsValidValue : List ℕ → Type 0
-IsValidValue value = (length value ≤ 4096) × All (λ b. b < 256) value
+IsValidValue value = (length value ≤ max_value_bytes) × All (λ b. b < 256) value
 
 -- 1 to 1,023 bytes of UTF-8 without NUL
 abbrev pub IsValidTarget : List ℕ → Type 0
-IsValidTarget target = (1 ≤ length target) × (length target ≤ 1023) × IsUtf8 target × All (λ b. b ≢ 0) target
+IsValidTarget target = (1 ≤ length target) × (length target ≤ max_target_bytes) × IsUtf8 target × All (λ b. b ≢ 0) target
 
 abbrev pub IsValidDate : ℕ → Type 0
 IsValidDate date = date ≤ last_moment
@@ -45,7 +46,7 @@ abbrev pub IsValidId : ℕ → Type 0
 IsValidId id = id < 2 ^ 128
 
 abbrev pub IsValidEvents : ℕ → Type 0
-IsValidEvents n = (1 ≤ n) × (n ≤ 65_536)
+IsValidEvents n = (1 ≤ n) × (n ≤ max_events)
 
 abbrev pub IsValidSteps : ℕ → Type 0
 IsValidSteps n = (1 ≤ n) × (n < 2 ^ 64)

@@ -1,5 +1,6 @@
 -- What a reply prints reads as what was printed.
 use Rattle.std.specs.Prelude.{ℕ, ◌≤◌, ◌<◌, ◌^◌, List, All, length}
+use Rattle.tm_base.specs.Limits.{max_names}
 use Rattle.tm_base.specs.Days.{last_moment}
 use Rattle.tm_base.specs.IsName.{IsName}
 use Rattle.tm_reply.specs.Escapes.{printed_word, printed_path, printed_id}
@@ -11,7 +12,7 @@ abbrev pub PrintedNamesRead : Type 0
 PrintedNamesRead = (name : List ℕ) → IsName name → IsNameWord (printed_word name) name
 
 abbrev pub PrintedPathsRead : Type 0
-PrintedPathsRead = (path : List (List ℕ)) → All IsName path → length path ≤ 64 → IsPath (printed_path path) path
+PrintedPathsRead = (path : List (List ℕ)) → All IsName path → length path ≤ max_names → IsPath (printed_path path) path
 
 abbrev pub PrintedIdsRead : Type 0
 PrintedIdsRead = (id : ℕ) → id < 2 ^ 128 → IsId (printed_id id) id

@@ -6,6 +6,7 @@ use Rattle.std.specs.Str.Parse.{IsNumeral, digits_value}
 use Rattle.std.specs.Int.{w128, from_be_bytes}
 use Rattle.percent_encoding.specs.Percent.{percent_decode}
 use Rattle.uuid.specs.Text.{parsed}
+use Rattle.tm_base.specs.Limits.{max_names, max_value_bytes, max_target_bytes, max_events}
 use Rattle.tm_base.specs.Days.{moment_text, last_moment}
 use Rattle.tm_base.specs.IsName.{IsName}
 use Rattle.tm_text.specs.Pieces.{pieces}
@@ -28,12 +29,12 @@ IsText word bytes = bytes ≡ percent_decode word
 
 -- VALUE, where it is not left out
 unfoldable pub IsValue : List ℕ → List ℕ → Type 0
-IsValue word bytes = (bytes ≡ percent_decode word) × (length bytes ≤ 4096)
+IsValue word bytes = (bytes ≡ percent_decode word) × (length bytes ≤ max_value_bytes)
 
 -- TARGET: it decodes to 1 to 1,023 bytes of UTF-8 without NUL
 unfoldable pub IsTarget : List ℕ → List ℕ → Type 0
 IsTarget word bytes =
-    (bytes ≡ percent_decode word) × (1 ≤ length bytes) × (length bytes ≤ 1023) × IsUtf8 bytes × All (λ b. b ≢ 0) bytes
+    (bytes ≡ percent_decode word) × (1 ≤ length bytes) × (length bytes ≤ max_target_bytes) × IsUtf8 bytes × All (λ b. b ≢ 0) bytes
 
 -- LENGTH, SEED, COUNT, N: 1 to 20 digits, below 2^64
 unfoldable pub IsNumber : List ℕ → ℕ → Type 0
@@ -41,7 +42,7 @@ IsNumber word n = IsNumeral 10 word × (length word ≤ 20) × (n ≡ digits_val
 
 -- EVENTS: such a number from 1 to 65,536
 unfoldable pub IsEvents : List ℕ → ℕ → Type 0
-IsEvents word n = IsNumber word n × (1 ≤ n) × (n ≤ 65_536)
+IsEvents word n = IsNumber word n × (1 ≤ n) × (n ≤ max_events)
 
 -- N of `advance`: such a number that is not 0
 unfoldable pub IsSteps : List ℕ → ℕ → Type 0
@@ -72,7 +73,7 @@ AreNames (part ∷ parts) [] = ⊥
 
 -- P and Q: it begins with `/`, and each part decodes to a name, of which there are at most 64
 unfoldable pub IsPath : List ℕ → List (List ℕ) → Type 0
-IsPath word path = IsTrue (starts_with nat_eq word (codes "/")) × AreNames (pieces 0x2F word) path × (length path ≤ 64)
+IsPath word path = IsTrue (starts_with nat_eq word (codes "/")) × AreNames (pieces 0x2F word) path × (length path ≤ max_names)
 
 -- a date, or the word `Latest`
 unfoldable pub IsWhich : List ℕ → Which → Type 0
@@ -87,7 +88,7 @@ IsStorePathParts parts (store_path.Snapshot s) =
     (m d : List ℕ) × (parts ≡ m ∷ d ∷ []) × IsNameWord m s.machine × IsWhich d s.at
 IsStorePathParts parts (store_path.Item i) =
     (m d v : List ℕ) × (rest : List (List ℕ)) × (parts ≡ m ∷ d ∷ v ∷ rest)
-    × IsNameWord m i.snapshot.machine × IsWhich d i.snapshot.at × IsNameWord v i.volume × AreNames rest i.path × (length i.path ≤ 64)
+    × IsNameWord m i.snapshot.machine × IsWhich d i.snapshot.at × IsNameWord v i.volume × AreNames rest i.path × (length i.path ≤ max_names)
 
 -- SP: a store path
 unfoldable pub IsStorePath : List ℕ → StorePath → Type 0

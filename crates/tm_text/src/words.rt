@@ -3,6 +3,7 @@
 //! Each answers what the word spells, or `Bad` exactly where it spells nothing.
 ghost use Rattle.std.specs.Prelude.{◌≡◌, IfOk, IsTrue, ◌↔◌, ◌≤◌, length, ℕ, List, codes};
 ghost use Rattle.percent_encoding.specs.Percent.{percent_decode};
+ghost use Rattle.tm_base.specs.Limits.{max_names};
 ghost use Rattle.tm_text.specs.Pieces.{texts, pieces};
 ghost use Rattle.tm_text.specs.Reads.{Reads};
 ghost use Rattle.tm_text.specs.Words.{IsNameWord, IsText, IsValue, IsNumber, IsEvents, IsSteps, IsMode, IsDate, IsId, AreNames, IsPath, IsWhich, IsTarget, IsOwner, IsItem, IsSnapshot, IsStored, IsStorePath, IsStorePathParts};
@@ -12,6 +13,7 @@ use crate::pieces::split_at_byte;
 use crate::place::{ItemAt, SnapshotAt, StorePath, Stored, Which};
 use crate::shapes::first;
 use std::alloc::{AllocError, Global};
+use tm_base::limits::{MAX_EVENTS, MAX_NAMES, MAX_TARGET_BYTES, MAX_VALUE_BYTES};
 use tm_base::{Moment, Name, NameError, Path};
 use tm_world::Bytes;
 use uuid::Uuid;
@@ -52,7 +54,7 @@ pub fn value(alloc: Global, word: &[u8]) -> Result<Bytes, LineError>
     ensures { Reads (IsValue word.now) result }
 {
     let bytes = decode(alloc, word)?;
-    if bytes.len() > 4096 {
+    if bytes.len() > MAX_VALUE_BYTES {
         return Err(LineError::Bad);
     }
     Ok(Bytes::of(bytes))
@@ -64,7 +66,7 @@ pub fn target(alloc: Global, word: &[u8]) -> Result<Bytes, LineError>
     ensures { Reads (IsTarget word.now) result }
 {
     let bytes = decode(alloc, word)?;
-    if bytes.is_empty() || bytes.len() > 1023 {
+    if bytes.is_empty() || bytes.len() > MAX_TARGET_BYTES {
         return Err(LineError::Bad);
     }
     if str::from_utf8(bytes.as_slice()).is_err() || !bytes.iter().all(|b| *b != 0) {
@@ -96,7 +98,7 @@ pub fn events(word: &[u8]) -> Result<u32, LineError>
     ensures { Reads (IsEvents word.now) result }
 {
     let n = number(word)?;
-    if n < 1 || n > 65_536 {
+    if n < 1 || n > MAX_EVENTS {
         return Err(LineError::Bad);
     }
     Ok(n as u32)
@@ -167,9 +169,9 @@ pub fn date(word: &[u8]) -> Result<Moment, LineError>
 
 // The path whose names these parts spell.
 fn names(alloc: Global, parts: &[&[u8]]) -> Result<Path, LineError>
-    ensures { Reads (λ path. AreNames (texts parts.now) path × (length path ≤ 64)) result }
+    ensures { Reads (λ path. AreNames (texts parts.now) path × (length path ≤ max_names)) result }
 {
-    if parts.len() > 64 {
+    if parts.len() > MAX_NAMES {
         return Err(LineError::Bad);
     }
     let mut path = Path::root(alloc);

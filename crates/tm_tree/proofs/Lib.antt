@@ -1,5 +1,6 @@
 pub mod Order
 pub mod AtPaths
+pub mod WalkSteps
 pub mod SameItems
 pub mod CopyProofs
 pub mod ExtraLemmas

@@ -1,7 +1,8 @@
 -- What is known where no test refuses a change.
-use Rattle.std.proofs.Common.{◌≡◌, ℕ, ◌+◌, ◌^◌, ◌≤◌, Bool, true, false, List, [], ◌∷◌, ◌++◌, length, Option, None, Some, IsSome, if◌then◌else◌, refl, sym, subst, arith}
+use Rattle.std.proofs.Common.{◌≡◌, ℕ, ◌+◌, ◌^◌, ◌≤◌, Bool, true, false, List, [], ◌∷◌, ◌++◌, length, Option, None, Some, IsSome, if◌then◌else◌, refl, sym, ap, ◌∙◌, subst, arith}
 use Rattle.std.proofs.lemmas.Bool.Decides.{nat_tests}
 use Rattle.std.specs.Option.{option_or}
+use Rattle.tm_base.specs.declared.refused.Refused.{Refused}
 use Rattle.tm_base.specs.declared.refused.Refused.TheVariants.{IsFolder}
 use Rattle.tm_base.specs.Paths.{Names, parent_of, same_name}
 use Rattle.tm_tree.specs.Changes.{ids_spent, own_tests, tests, place_tests, file_tests, item_tests, rmdir_tests, mv_tests, length_at}
@@ -19,6 +20,14 @@ pub first_or : (a b : Tests) → first_refused (a ++ b) ≡ option_or (first_ref
 first_or [] b = refl
 first_or ((true, why) ∷ a) b = refl
 first_or ((false, why) ∷ a) b = first_or a b
+
+-- a test that holds is met before the tests that follow
+pub refused_first : (a b : Tests) (why : Refused) → first_refused a ≡ Some why → first_refused (a ++ b) ≡ Some why
+refused_first a b why h = first_or a b ∙ ap (λ o. option_or o (first_refused b)) h
+
+-- where none holds, the tests that follow decide
+pub passed_first : (a b : Tests) → first_refused a ≡ None → first_refused (a ++ b) ≡ first_refused b
+passed_first a b h = first_or a b ∙ ap (λ o. option_or o (first_refused b)) h
 
 pub none_before : (a b : Tests) → first_refused (a ++ b) ≡ None → first_refused a ≡ None
 none_before [] b h = refl

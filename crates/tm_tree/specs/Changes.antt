@@ -2,6 +2,7 @@
 use Rattle.std.specs.Prelude.{ℕ, ◌+◌, ◌*◌, ◌/◌, ◌%◌, ◌-◌, ◌^◌, Bool, false, not, ◌&&◌, ◌||◌, nat_lt, if◌then◌else◌, Option, Some, None, is_some, unwrap_or, List, [], ◌∷◌, ◌++◌, length, map}
 use Rattle.std.specs.List.{list_any, range_with_len}
 use Rattle.std.specs.Option.{option_map, option_map_or}
+use Rattle.tm_base.specs.Limits.{max_items, max_file_bytes, max_extras, max_fixed, max_names}
 use Rattle.tm_base.specs.Paths.{Names, same_name, is_prefix, is_root, parent_of}
 use Rattle.tm_base.specs.declared.refused.Refused.TheVariants.{NotFound, Exists, NotFolder, IsFolder, NotEmpty, IntoSelf, TooDeep, TooLong, RootItem, NotExcluded, NoAttribute, IdsSpent}
 use Rattle.tm_tree.specs.declared.attrs.Attrs.{Attrs}
@@ -21,23 +22,23 @@ use Rattle.tm_tree.specs.Touches.{numbers}
 
 -- items of a volume, the root counted
 abbrev pub most_items : ℕ
-most_items = 65_536
+most_items = max_items
 
 -- bytes of a file
 abbrev pub most_bytes : ℕ
-most_bytes = 16_777_216
+most_bytes = max_file_bytes
 
 -- extras of an item
 abbrev pub most_extras : ℕ
-most_extras = 16
+most_extras = max_extras
 
 -- fixed paths of a volume
 abbrev pub most_fixed : ℕ
-most_fixed = 256
+most_fixed = max_fixed
 
 -- names of a path
 abbrev pub most_names : ℕ
-most_names = 64
+most_names = max_names
 
 -- ---- the tests of each line, by rising number of the refusal
 

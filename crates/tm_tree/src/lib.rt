@@ -4,6 +4,7 @@
 
 mod attrs;
 mod change;
+mod fill;
 mod item;
 mod laws;
 mod listing;
@@ -14,6 +15,7 @@ mod walk;
 
 pub use attrs::{Attrs, Extras, is_exclusion};
 pub use change::Change;
+pub use fill::fill_bytes;
 pub use item::{Item, Labelled};
 pub use laws::{
     copy_is_whole, copy_of_part, copy_over_same, moves_items, new_is_tree, tree_is_kept,

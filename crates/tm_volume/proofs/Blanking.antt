@@ -13,7 +13,7 @@ use Rattle.tm_codec.proofs.Fields.{length-u8_text, length-u16_text, length-u32_t
 use Rattle.tm_gate.specs.Selector.{named_by}
 use Rattle.tm_gate.specs.Tag.{volume_tag}
 use Rattle.tm_image.specs.Blank.{IsFirstPut, LacksMagic, LeavesNoneOr}
-use Rattle.tm_image.specs.Reads.{Entry, Reads, entry_of, entries_of}
+use Rattle.tm_image.specs.Reads.{Entry, ReadsAsTable, entry_of, entries_of}
 use Rattle.tm_image.specs.Room as image_room
 use Rattle.tm_image.specs.Seen.{Seen as ImageSeen, Stands}
 use Rattle.tm_index.specs.Folders.{Folders, numbers_in}
@@ -51,27 +51,14 @@ use Rattle.tm_volume.specs.Reads.{VolumeReads, LeavesEither}
 use Rattle.tm_volume_records.specs.Rules.{Tag, IsTagged, IsGoodVolume, IsHead, IsItem}
 use Rattle.tm_volume.specs.Seen.{Seen, IsShelf, StandsOn, tree_on, stored_on}
 use Rattle.tm_volume.specs.Stored.{StoredVolume, new_stored}
-use Rattle.tm_volume.proofs.Goods.{AreGood, good_put, good_volume}
+use Rattle.tm_volume.proofs.GoodRecords.{AreGood, good_put, good_volume}
 use Rattle.tm_volume_records.proofs.Keys.{not_at}
 use Rattle.tm_volume.proofs.Metas.{meta_short}
 use Rattle.tm_volume.proofs.Rooms.{data_length, part_len, text_sum}
 use Rattle.tm_volume.proofs.Standing.{IsTold, volume_reads}
+use Rattle.tm_nodes.proofs.Fields.{name_had}
 
 -- ---- names
-
-name_in : (name : List ℕ) (o : Option (List ℕ)) → machine_of (machine_text name) ≡ o → is_some o ≡ true → IsName name
-unfolding short_text u8_text
-name_in name None is some = absurd (let bad : false ≡ true = some in cc)
-name_in name (Some other) is some =
-    let read = machine_finds.is (machine_text name) other is in
-    let same : other ≡ name = sym (ap (drop 1) read.spelled) in
-    subst IsName same read.rules
-
--- a name keeps the rules of one
-name_had : (name : List ℕ) → ∥ IsName name ∥₁ → IsName name
-name_had name had =
-    name_in name (machine_of (machine_text name)) refl
-    (∥∥₁_elim had (Bool-set _ _) (λ is. ap is_some (machine_finds.again (machine_text name) name (record { rules = is; spelled = refl }))))
 
 pub head_rules : (name : List ℕ) (id events : ℕ) → ∥ IsName name ∥₁ → id < 2 ^ 128 → events < 2 ^ 32 → IsVolumeHead (record { id = id; capacity = events; name = name })
 head_rules name id events had small few = record { id = small; capacity = few; name = name_had name had }
@@ -286,7 +273,7 @@ module _ (head : VolumeHead) (moment : ℕ) (rules : IsVolumeHead head) (low : m
         → LeavesEither None (Some (new_stored head.name head.id head.capacity moment)) d
     leaves_first bytes d leaves image left = ⊎_elim
         (λ (lacks : LacksMagic image.bytes). inl (inr (named_by (image.bytes 0), record { selected = refl; lacks = lacks })))
-        (λ (reads : Reads OfVolume (entries_of bytes (with_puts (first_puts head moment) [])) (volume_tag 0 1 1) image).
+        (λ (reads : ReadsAsTable OfVolume (entries_of bytes (with_puts (first_puts head moment) [])) (volume_tag 0 1 1) image).
         inr (subst (λ (s : StoredVolume). VolumeReads image s) (stored_first some_image refl bytes) (volume_reads (new_seen some_image head []) bytes image (told_first some_image refl bytes) reads)))
         (leaves image left)
 

@@ -30,15 +30,13 @@ use Rattle.tm_volume_records.proofs.Slots.{placed_rec, items_at, items_out, numb
 use Rattle.tm_volume.specs.Bounds.{HasFields, HasBounds, KeptIsTree, KeptAreFew, ItemsKeepBounds}
 use Rattle.tm_volume.specs.Seen.{Seen, IsKept, entries_on, items_on, tree_on}
 use Rattle.tm_volume.proofs.Rows.{FindsItems, data_length}
+use Rattle.tm_base.proofs.Facts.{none_some}
 
 some_same : {X : Type 0} {a b : X} → Some a ≡ Some b → a ≡ b
 some_same h = cc
 
 is_one : (n : ℕ) → (n == 1) ≡ true → 1 ≡ n
 is_one n e = sym ((unsigned_Decides n 1).0 e)
-
-none_some : {X P : Type 0} {x : X} → None ≡ Some x → P
-none_some h = absurd (cc h)
 
 -- what a row says of its item
 row_attrs : (b : ItemBody) (bytes : List ℕ) → attrs_of (item_with b bytes) ≡ item_attrs b

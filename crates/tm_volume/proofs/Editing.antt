@@ -4,7 +4,7 @@ use Rattle.std.specs.Option.{option_map, unwrap_or}
 use Rattle.tm_base.specs.Paths.{Names}
 use Rattle.tm_gate.specs.Tag.{volume_tag, IsTag}
 use Rattle.tm_image.specs.Commit.{changed, brought_by}
-use Rattle.tm_image.specs.Reads.{Entries, Reads, entries_of, LeavesOneOf}
+use Rattle.tm_image.specs.Reads.{Entries, ReadsAsTable, entries_of, LeavesOneOf}
 use Rattle.tm_image.specs.Room.{HasRoom}
 use Rattle.tm_image.specs.Seen.{Seen as ImageSeen, Stands, HasSameImage, IsSettled, staged}
 use Rattle.tm_items.specs.Computed.{items_of, tree_of}
@@ -108,8 +108,8 @@ module _ (m : Seen) (n0 : Numbers) (shelf : IsShelf m n0) where
         → LeavesOneOf OfVolume (entries_on m d0.bytes) (tag_bytes m.tag) (entries_on (after m e) d0.bytes) (tag_bytes (next_tag m e)) d
         → LeavesEither (Some (stored_on m d0.bytes)) (Some (stored_on (after m e) d0.bytes)) d
     either d0 d stands good leaves image left = ⊎_elim
-        (λ (r : Reads OfVolume (entries_on m d0.bytes) (tag_bytes m.tag) image). inl (volume_reads m d0.bytes image (told_of m n0 d0 shelf stands) r))
-        (λ (r : Reads OfVolume (entries_on (after m e) d0.bytes) (tag_bytes (next_tag m e)) image). inr (volume_reads (after m e) d0.bytes image (told_after d0.bytes good) r))
+        (λ (r : ReadsAsTable OfVolume (entries_on m d0.bytes) (tag_bytes m.tag) image). inl (volume_reads m d0.bytes image (told_of m n0 d0 shelf stands) r))
+        (λ (r : ReadsAsTable OfVolume (entries_on (after m e) d0.bytes) (tag_bytes (next_tag m e)) image). inr (volume_reads (after m e) d0.bytes image (told_after d0.bytes good) r))
         (leaves image left)
 
     run_on : (l0 l1 : Log) → StandsOn m (disk OfVolume (now l0)) → IsGoodEdit m e (disk OfVolume (now l0)).bytes

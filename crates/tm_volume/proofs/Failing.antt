@@ -6,7 +6,7 @@ use Rattle.tm_gate.specs.Slot.{HasMagic}
 use Rattle.tm_image.specs.Blank.{LacksMagic}
 use Rattle.tm_image.specs.Laws.{FailsOrLacks, OneFailure, OneReading, ReadsOrFails, ReadsOrLacks}
 use Rattle.tm_image.specs.Load.{Fails}
-use Rattle.tm_image.specs.Reads.{Entries, Reads}
+use Rattle.tm_image.specs.Reads.{Entries, ReadsAsTable}
 use Rattle.tm_world.specs.Disk.{Image}
 use Rattle.tm_world.specs.declared.cause.Cause.{Cause}
 use Rattle.tm_world.specs.declared.cause.Cause.TheVariants.{Slot, Chain, Table, Pages, Block, Room, Record, Spent}
@@ -26,7 +26,7 @@ record FailsLate (image : Image) (cause : Cause) (place : ℕ) : Type 0 where
   entries : Entries
   tag : Tag
   tagged : IsTagged tag
-  reads : Reads OfVolume entries (tag_bytes tag) image
+  reads : ReadsAsTable OfVolume entries (tag_bytes tag) image
   late : IsLate entries tag cause place
 
 split : (image : Image) (cause : Cause) (place : ℕ) → FailsVolume image cause place → Fails OfVolume image.count image.bytes cause place ⊎ FailsLate image cause place
@@ -58,7 +58,7 @@ late_once entries tag cause cause2 place place2 (inr f) (inr g) = (g.0 ∙ sym f
 
 module _ (reading : OneReading) (image : Image) (few : image.count ≤ 262144) where
   moved : (entries entries2 : Entries) (tag tag2 : Tag) (cause : Cause) (place : ℕ) → IsTagged tag → IsTagged tag2
-      → Reads OfVolume entries (tag_bytes tag) image → Reads OfVolume entries2 (tag_bytes tag2) image → IsLate entries2 tag2 cause place → IsLate entries tag cause place
+      → ReadsAsTable OfVolume entries (tag_bytes tag) image → ReadsAsTable OfVolume entries2 (tag_bytes tag2) image → IsLate entries2 tag2 cause place → IsLate entries tag cause place
   moved entries entries2 tag tag2 cause place bound bound2 reads reads2 late =
       let both = reading OfVolume entries entries2 (tag_bytes tag) (tag_bytes tag2) image few reads reads2 in
       subst (λ (t : Tag). IsLate entries t cause place) (same_tag tag2 tag bound2 bound both.1) (subst (λ (xs : Entries). IsLate xs tag2 cause place) both.0 late)

@@ -32,6 +32,7 @@ use Rattle.tm_volume.proofs.Rows.{HasRow, has_row, data_length}
 use Rattle.tm_volume.proofs.Finding.{IsRowAt}
 use Rattle.tm_volume.specs.Listed.{AddsItem}
 use Rattle.tm_volume_records.proofs.Slots.{Rising, at_itself, items_at, once_there, is_less, placed_rec, placings_on, numbered_on, items_out}
+use Rattle.tm_base.proofs.Facts.{none_some}
 
 -- the items from a number on
 abbrev pub from : ℕ → Placings → Placings
@@ -40,9 +41,6 @@ from n placings = filter (λ e. nat_le n e.0) placings
 -- the items below n are in the tree, and those from n on still to be put
 pub record HasBelow (placings : Placings) (n : ℕ) (t : Tree) : Type 0 where
   pub more : put_all t (placed_rows (items_of placings) (from n placings)) ≡ tree_of placings
-
-none_some : {X P : Type 0} {x : X} → None ≡ Some x → P
-none_some h = cc
 
 -- ---- a list from a number on
 

@@ -7,7 +7,7 @@ use Rattle.tm_gate.specs.Load.{IsUnformatted}
 use Rattle.tm_gate.specs.Selector.{named_by}
 use Rattle.tm_gate.specs.Slot.{HasMagic}
 use Rattle.tm_gate.specs.Tag.{volume_tag}
-use Rattle.tm_image.specs.Reads.{Entry, Entries, Reads}
+use Rattle.tm_image.specs.Reads.{Entry, Entries, ReadsAsTable}
 use Rattle.tm_items.proofs.Reading.{one_tree}
 use Rattle.tm_items.specs.Computed.{items_of}
 use Rattle.tm_items.specs.Placings.{ReadsAs}
@@ -114,6 +114,6 @@ told_kept m d kept stands = record { tagged = kept.tagged; head = kept.head_is; 
 
 pub stands_leaves : StandingIsLeft → StandsLeaves
 stands_leaves left m blocks d kept ready stands image is_left =
-    let read : Reads m.image.side (entries_on m d.bytes) m.image.root.tag image = left m.image d kept.image ready.settled ready.space stands.stands image is_left in
+    let read : ReadsAsTable m.image.side (entries_on m d.bytes) m.image.root.tag image = left m.image d kept.image ready.settled ready.space stands.stands image is_left in
     volume_reads m d.bytes image (told_kept m d kept stands)
-    (subst (λ t. Reads OfVolume (entries_on m d.bytes) t image) kept.tag_is (subst (λ (s : Side). Reads s (entries_on m d.bytes) m.image.root.tag image) kept.side read))
+    (subst (λ t. ReadsAsTable OfVolume (entries_on m d.bytes) t image) kept.tag_is (subst (λ (s : Side). ReadsAsTable s (entries_on m d.bytes) m.image.root.tag image) kept.side read))

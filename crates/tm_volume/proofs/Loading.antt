@@ -1,8 +1,8 @@
 -- What was read is a volume, or fails a check.
-use Rattle.std.proofs.Common.{◌≡◌, ℕ, ◌-◌, ◌^◌, Bool, true, false, not, List, Err, refl, sym, subst}
+use Rattle.std.proofs.Common.{◌≡◌, ℕ, ◌-◌, ◌^◌, ◌∙◌, Bool, true, false, not, List, Result, Err, refl, sym, subst}
 use Rattle.tm_image.specs.Laws.{StandingIsRead}
 use Rattle.tm_image.specs.Load.{Fails}
-use Rattle.tm_image.specs.Reads.{Reads, entries_of}
+use Rattle.tm_image.specs.Reads.{ReadsAsTable, entries_of}
 use Rattle.tm_image.specs.Room.{HasRoom}
 use Rattle.tm_image.specs.Seen.{Seen as ImageSeen, IsSound, IsSettled, Stands}
 use Rattle.tm_image.specs.declared.error.LoadError.{LoadError}
@@ -16,6 +16,13 @@ use Rattle.tm_volume.specs.Answers.{FailsVolume}
 use Rattle.tm_volume_records.specs.Loads.{IfBadKey}
 use Rattle.tm_volume.specs.Reads.{tag_bytes}
 use Rattle.tm_volume_records.specs.Rules.{Tag, IsTagged, IsGoodVolume, IsLeastBad}
+
+-- a failure that is handed on
+pub handed_on : {A : Type 0} {result : Result A LoadError} {error why : LoadError} → result ≡ Err error → result ≡ Err why → error ≡ why
+handed_on from is = same_error (sym from ∙ is)
+  where
+    same_error : {A : Type 0} {a b : LoadError} → ◌≡◌ {A = Result A LoadError} (Err a) (Err b) → a ≡ b
+    same_error h = cc
 
 -- a step of every image's
 pub fails_volume : (count : ℕ) (bytes : ℕ → List ℕ) (why : Cause) (place : ℕ) → Fails OfVolume count bytes why place → FailsVolume (record { count = count; bytes = bytes }) why place
@@ -46,11 +53,11 @@ pub record IsLoadedImage (m : ImageSeen) (d : Disk) (blocks : ℕ) (tag : Tag) :
   pub tagged : IsTagged tag
 
 module _ (law : StandingIsRead) (m : ImageSeen) (d : Disk) (blocks : ℕ) (tag : Tag) (is : IsLoadedImage m d blocks tag) where
-  reads : Reads OfVolume (entries_of d.bytes m.records) (tag_bytes tag) (record { count = blocks; bytes = d.bytes })
+  reads : ReadsAsTable OfVolume (entries_of d.bytes m.records) (tag_bytes tag) (record { count = blocks; bytes = d.bytes })
   reads =
-      subst (λ n. Reads OfVolume (entries_of d.bytes m.records) (tag_bytes tag) (record { count = n; bytes = d.bytes })) is.count
-      (subst (λ t. Reads OfVolume (entries_of d.bytes m.records) t (record { count = d.count; bytes = d.bytes })) is.tag_is
-      (subst (λ (s : Side). Reads s (entries_of d.bytes m.records) m.root.tag (record { count = d.count; bytes = d.bytes })) is.side (law m d is.sound is.settled is.space is.stands)))
+      subst (λ n. ReadsAsTable OfVolume (entries_of d.bytes m.records) (tag_bytes tag) (record { count = n; bytes = d.bytes })) is.count
+      (subst (λ t. ReadsAsTable OfVolume (entries_of d.bytes m.records) t (record { count = d.count; bytes = d.bytes })) is.tag_is
+      (subst (λ (s : Side). ReadsAsTable s (entries_of d.bytes m.records) m.root.tag (record { count = d.count; bytes = d.bytes })) is.side (law m d is.sound is.settled is.space is.stands)))
 
   pub fails_record : (A : Type 0) (error : LoadError) → IfBadKey {A = A} (Err error) (IsLeastBad (entries_of d.bytes m.records) tag) → (why : Cause) (place : ℕ) → error ≡ load.Bad why place
       → FailsVolume (record { count = blocks; bytes = d.bytes }) why place

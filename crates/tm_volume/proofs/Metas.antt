@@ -17,44 +17,7 @@ use Rattle.tm_nodes.specs.Attrs.{extra_text, attrs_text, IsExtra, IsAttrs}
 use Rattle.tm_nodes.specs.Items.{item_text, item_kind, item_attrs, item_tail, item_name, IsItemRow, IsItemTail}
 use Rattle.tm_nodes.specs.Kinds.{kind_text, kind_number}
 use Rattle.tm_volume.proofs.Rooms.{part_len}
-
-bounded : {X : Type 0} (f : X → ℕ) (c : ℕ) (P : X → Type 0) → ((x : X) → P x → f x ≤ c) → (xs : List X) → All P xs → sum_by f xs ≤ c * length xs
-bounded f c P each [] all = omega arith
-bounded f c P each (x ∷ xs) all =
-    let more = bounded f c P each xs (λ k d lt. all (suc k) d (omega arith)) in
-    let one = each x (all 0 x (omega arith)) in
-    omega (arith, sum_by-cons f x xs, more, one)
-
-extra_len : (x : List ℕ × List ℕ) → IsExtra x → length (extra_text x) ≤ 4354
-unfolding extra_text
-extra_len x is = omega (arith, length-append (short_text x.0) (long_text x.1), length-short_text x.0, length-long_text x.1, is.name.short, is.value)
-
-attrs_len : (a : Attrs) → IsAttrs a → length (attrs_text a) ≤ 70000
-unfolding attrs_text
-attrs_len a is =
-    let m = u16_text a.mode in
-    let u = u32_text a.uid in
-    let g = u32_text a.gid in
-    let t = u64_text a.modified in
-    let n = u8_text (length a.extra) in
-    let x = flat_map extra_text a.extra in
-    let all = bounded (λ (e : List ℕ × List ℕ). length (extra_text e)) 4354 IsExtra extra_len a.extra is.each in
-    omega (
-      arith,
-      length-append (m ++ u ++ g ++ t ++ n) x,
-      length-append (m ++ u ++ g ++ t) n,
-      length-append (m ++ u ++ g) t,
-      length-append (m ++ u) g,
-      length-append m u,
-      length-u16_text a.mode,
-      length-u32_text a.uid,
-      length-u32_text a.gid,
-      length-u64_text a.modified,
-      length-u8_text (length a.extra),
-      length-flat_map extra_text a.extra,
-      all,
-      is.few,
-    )
+use Rattle.tm_nodes.proofs.Lengths.{attrs_length, sum_bounded}
 
 name_len : (o : Option (List ℕ)) → IfSome o IsName → length (short_text (item_name o)) ≤ 256
 name_len None h = omega (arith, length-short_text [])
@@ -71,4 +34,4 @@ kind_len k = length-u8_text (kind_number k)
 
 -- it can be spelled in a table
 pub meta_short : (row : ItemRow) → IsItemRow row → length (item_text row) < 2 ^ 32
-meta_short row is = omega (arith, part_len row, kind_len (item_kind row.body), name_len row.name is.name, attrs_len (item_attrs row.body) is.attrs, tail_len row.body is.tail)
+meta_short row is = omega (arith, part_len row, kind_len (item_kind row.body), name_len row.name is.name, attrs_length (item_attrs row.body) is.attrs, tail_len row.body is.tail)

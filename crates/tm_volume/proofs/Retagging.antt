@@ -2,7 +2,7 @@
 use Rattle.std.proofs.Common.{◌≡◌, ⊎_elim, inl, inr, ℕ, ◌^◌, ◌==◌, ◌<◌, ◌≤◌, Bool, true, false, cond, List, Some, refl, sym, ◌∙◌, ap, subst, arith}
 use Rattle.std.specs.Option.{option_map}
 use Rattle.tm_gate.specs.Tag.{volume_tag, IsVolumeTag, IsTag}
-use Rattle.tm_image.specs.Reads.{Entries, Reads, entries_of, LeavesOneOf}
+use Rattle.tm_image.specs.Reads.{Entries, ReadsAsTable, entries_of, LeavesOneOf}
 use Rattle.tm_image.specs.Seen.{Seen as ImageSeen, Stands}
 use Rattle.tm_items.specs.Index.{Numbers, IsIndex}
 use Rattle.tm_items.specs.Computed.{items_of}
@@ -91,8 +91,8 @@ module _ (m : Seen) (numbers : Numbers) (clean : Bool) (generation next : ℕ) (
       let told = told_of m numbers d0 shelf stands in
       let after : IsTold (Tagged m (new_tag clean generation next)) d0.bytes = record { tagged = tagged_is m clean generation next shelf.tagged new; head = told.head; sound = told.sound; good = good_tagged m (entries_on m d0.bytes) clean generation next new told.good; fixed = told.fixed } in
       ⊎_elim
-      (λ (r : Reads OfVolume (entries_on m d0.bytes) (tag_bytes m.tag) image). inl (volume_reads m d0.bytes image told r))
-      (λ (r : Reads OfVolume (entries_on m d0.bytes) (tag_bytes (new_tag clean generation next)) image).
+      (λ (r : ReadsAsTable OfVolume (entries_on m d0.bytes) (tag_bytes m.tag) image). inl (volume_reads m d0.bytes image told r))
+      (λ (r : ReadsAsTable OfVolume (entries_on m d0.bytes) (tag_bytes (new_tag clean generation next)) image).
       inr (subst (λ (s : StoredVolume). VolumeReads image s) (stored_is m d0.bytes clean generation next) (volume_reads (Tagged m (new_tag clean generation next)) d0.bytes image after r)))
       (leaves image left)
 

@@ -16,7 +16,7 @@ use Rattle.tm_records.specs.Records.{Records, at}
 use Rattle.tm_table.specs.Text.{record_text, table_text}
 use Rattle.tm_table.proofs.Standing.{length-record_text}
 use Rattle.tm_image.specs.Reads.{Entry, Entries, entry_of, entries_of}
-use Rattle.tm_image.specs.Seen.{IsKept}
+use Rattle.tm_image.specs.Seen.{IsKept, IsSound as IsSoundImage}
 use Rattle.tm_items.specs.Placings.{Placed}
 use Rattle.tm_items.specs.Computed.{last_name}
 use Rattle.tm_items.specs.Placings.{ReadsAs}
@@ -25,7 +25,7 @@ use Rattle.tm_items.proofs.Reading.{tree_reads}
 use Rattle.tm_items.proofs.Weighing.{weighs_alike, counts_alike}
 use Rattle.tm_image.specs.Room as image_room
 use Rattle.tm_image.specs.Reads as image_reads
-use Rattle.tm_image.specs.Layout.{blocks_for}
+use Rattle.tm_image.specs.Layout.{blocks_for, places}
 use Rattle.tm_nodes.specs.Attrs.{attrs_text}
 use Rattle.tm_nodes.specs.Items.{item_text, item_kind, item_attrs, item_tail, item_name, IsItemOfSize, HasItemSize}
 use Rattle.tm_nodes.specs.Kinds.{kind_text}
@@ -45,7 +45,7 @@ use Rattle.tm_tree.specs.Items.{bytes_of}
 use Rattle.tm_volume_records.specs.Records.{head_key, journal_key, item_key, entry_at, item_with, placed_with, placed_of}
 use Rattle.tm_volume.specs.Room.{body_of, row_of, item_len, record_len, head_len, text_len, table_len, data_len}
 use Rattle.tm_volume_records.specs.Rules.{IsItem, HasData, IsGoodVolume, IsVolumeKey}
-use Rattle.tm_volume.specs.Seen.{Seen, entries_on, items_on, tree_on, stored_on}
+use Rattle.tm_volume.specs.Seen.{Seen, IsReady, entries_on, items_on, tree_on, stored_on}
 use Rattle.tm_volume_records.proofs.Slots.{Rising, entry_is, placings_on, range_key, numbered_on}
 use Rattle.tm_volume.proofs.Weights.{each_found, Fits, weigh_records}
 
@@ -255,3 +255,12 @@ module _ (m : Seen) (bytes : ℕ → List ℕ) (known : Known m bytes) where
 
     pub data_is : image_reads.data_len m.image.records ≡ data_len (stored_on m bytes)
     data_is = omega (arith, records_weigh (λ r. length r.blocks) data_weight (λ r kept item. data_costs bytes m.tag.next r kept item), head_data, journal_data, tree_weighs (λ name e. blob_len (length (bytes_of e))))
+
+-- ---- the blocks that are free
+
+-- where nothing is staged
+pub free_here : (m : Seen) (blocks free : ℕ) → IsReady m blocks → IsSoundImage m.image → free ≡ image_room.free_of m.image → free + 3 + length (places m.image.layout) + image_reads.data_len m.image.records + 0 ≡ length m.image.used
+    → image_room.free_of m.image + 3 + image_room.table_len m.image.records + image_reads.data_len m.image.records ≡ blocks
+free_here m blocks free ready sound is rule =
+    let table : length (places m.image.layout) ≡ image_room.table_len m.image.records = sound.many ∙ ap blocks_for ready.settled in
+    omega (arith, is, rule, table, ready.count)

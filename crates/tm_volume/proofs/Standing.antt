@@ -7,7 +7,7 @@ use Rattle.std.specs.Option.{option_map, IfSome}
 use Rattle.std.specs.Ordering.{nat_cmp}
 use Rattle.std.specs.declared.cmp.Ordering.TheVariants.{Less}
 use Rattle.tm_base.specs.Paths.{Names}
-use Rattle.tm_image.specs.Reads.{Entry, Entries, Reads, entry_of}
+use Rattle.tm_image.specs.Reads.{Entry, Entries, ReadsAsTable, entry_of}
 use Rattle.tm_items.proofs.Reading.{tree_reads}
 use Rattle.tm_items.specs.Rules.{IsSound}
 use Rattle.tm_nodes.specs.declared.volume.VolumeHead.{VolumeHead}
@@ -74,7 +74,7 @@ unfolding IsStrictlySortedBy
 rising total before [] are = tt
 rising total before (e ∷ es) are = (above_all total e.0 es are.1, rising total (Some e.0) es are.1)
 
-pub reads_rising : (entries : Entries) (tag : List ℕ) (image : Image) → Reads OfVolume entries tag image → IsStrictlySortedBy nat_cmp (keys_of entries)
+pub reads_rising : (entries : Entries) (tag : List ℕ) (image : Image) → ReadsAsTable OfVolume entries tag image → IsStrictlySortedBy nat_cmp (keys_of entries)
 reads_rising entries tag image r =
     let same : keys_of entries ≡ keys_of r.content.records = ap keys_of r.entries_are ∙ same_keys image.bytes r.content.records in
     subst (λ ks. IsStrictlySortedBy nat_cmp ks) (sym same) (rising r.content.blocks None r.content.records r.good.records)
@@ -125,7 +125,7 @@ volume_is m bytes sorted told =
       journal = journal_length bytes (at journal_key m.image.records) (entry_at journal_key (entries_on m bytes)) (entry_is bytes journal_key m.image.records);
     }
 
-pub volume_reads : (m : Seen) (bytes : ℕ → List ℕ) (image : Image) → IsTold m bytes → Reads OfVolume (entries_on m bytes) (tag_bytes m.tag) image → VolumeReads image (stored_on m bytes)
+pub volume_reads : (m : Seen) (bytes : ℕ → List ℕ) (image : Image) → IsTold m bytes → ReadsAsTable OfVolume (entries_on m bytes) (tag_bytes m.tag) image → VolumeReads image (stored_on m bytes)
 volume_reads m bytes image told reads = record {
   entries = entries_on m bytes;
   tag = m.tag;

@@ -1,7 +1,7 @@
 -- The bytes of a tag, laid one after another over zeros.
 use Rattle.std.proofs.Common.{◌≡◌, ℕ, ◌==◌, ◌^◌, ◌<◌, ◌≤◌, Bool, cond, get_or, List, [], ◌∷◌, ◌++◌, replicate, refl, sym, ap, subst, ◌∙◌, arith}
 use Rattle.std.proofs.lemmas.Bool.Decides.{nat_tests}
-use Rattle.tm_codec.specs.Places.{StandsAt}
+use Rattle.tm_codec.specs.Places.{IsTextAt}
 use Rattle.tm_gate.specs.Tag.{IsVolumeTag}
 use Rattle.tm_volume_records.specs.Rules.{IsTagged}
 use borrow.Rule.Slice.PartMut.{put_mid}
@@ -18,19 +18,19 @@ tag_laid clean generation next x g n ex eg en = (λ i. put_mid 16 8 (put_mid 8 8
 
 -- ---- reading
 
-generation_at : (c g n : ℕ) → StandsAt (u64_text g) 8 (volume_tag c g n)
+generation_at : (c g n : ℕ) → IsTextAt (u64_text g) 8 (volume_tag c g n)
 unfolding u64_text
 generation_at c g n = refl
 
-next_at : (c g n : ℕ) → StandsAt (u64_text n) 16 (volume_tag c g n)
+next_at : (c g n : ℕ) → IsTextAt (u64_text n) 16 (volume_tag c g n)
 unfolding u64_text
 next_at c g n = refl
 
-pub reads_generation : (tag : List ℕ) (t : IsVolumeTag tag) → StandsAt (u64_text t.generation) 8 tag
-reads_generation tag t = subst (λ (bs : List ℕ). StandsAt (u64_text t.generation) 8 bs) (sym t.is) (generation_at t.clean t.generation t.next)
+pub reads_generation : (tag : List ℕ) (t : IsVolumeTag tag) → IsTextAt (u64_text t.generation) 8 tag
+reads_generation tag t = subst (λ (bs : List ℕ). IsTextAt (u64_text t.generation) 8 bs) (sym t.is) (generation_at t.clean t.generation t.next)
 
-pub reads_next : (tag : List ℕ) (t : IsVolumeTag tag) → StandsAt (u64_text t.next) 16 tag
-reads_next tag t = subst (λ (bs : List ℕ). StandsAt (u64_text t.next) 16 bs) (sym t.is) (next_at t.clean t.generation t.next)
+pub reads_next : (tag : List ℕ) (t : IsVolumeTag tag) → IsTextAt (u64_text t.next) 16 tag
+reads_next tag t = subst (λ (bs : List ℕ). IsTextAt (u64_text t.next) 16 bs) (sym t.is) (next_at t.clean t.generation t.next)
 
 pub small_generation : (tag : List ℕ) (t : IsVolumeTag tag) → t.generation < 2 ^ 64
 small_generation tag t = let h = t.generation_most in omega (arith, h)

@@ -14,9 +14,7 @@ use Rattle.tm_items.specs.Computed.{Placings}
 use Rattle.tm_items.proofs.Reading.{number_decides}
 use Rattle.tm_volume_records.specs.Records.{is_item_key, placed_of, numbered}
 use Rattle.tm_volume_records.proofs.Slots.{Rising, rising_tail, once_there, at_itself, placings_on, placings_cons, placings_nil, key_range}
-
-clash : {X Q : Type 0} {r : X} → None ≡ Some r → Q
-clash h = cc
+use Rattle.tm_base.proofs.Facts.{none_some}
 
 -- what is found by its key is each record
 module _ {X : Type 0} (P : ℕ × X → Type 0) where
@@ -29,7 +27,7 @@ module _ {X : Type 0} (P : ℕ × X → Type 0) where
     where
       behind : (k : ℕ) (r : X) → lookup (is_at (nat_cmp k)) es ≡ Some r → cond (is_at (nat_cmp k) e.0) (Some e.1) (lookup (is_at (nat_cmp k)) es) ≡ Some r
       behind k r is = elim (is_at (nat_cmp k) e.0) as (λ b. is_at (nat_cmp k) e.0 ≡ b → cond b (Some e.1) (lookup (is_at (nat_cmp k)) es) ≡ Some r) [
-        | true ↦ λ here. let none : lookup (is_at (nat_cmp k)) es ≡ None = once_there k e es s here in clash (sym none ∙ is)
+        | true ↦ λ here. let none : lookup (is_at (nat_cmp k)) es ≡ None = once_there k e es s here in none_some (sym none ∙ is)
         | false ↦ λ off. is
       ] refl
 

@@ -1,34 +1,20 @@
 -- What the calls of a volume answer.
-use Rattle.std.specs.Prelude.{◌≡◌, ◌≤◌, ℕ, ◌^◌, ◌-◌, false, Option, Some, None, Result, Ok, Err, List}
+use Rattle.std.specs.Prelude.{◌≡◌, ◌≤◌, ℕ, ◌^◌, ◌-◌, false, Option, Some, Result, Ok, Err}
 use Rattle.tm_base.specs.declared.refused.Refused.{Refused}
-use Rattle.tm_base.specs.declared.refused.Side.{Side}
 use Rattle.tm_base.specs.declared.refused.LineFault.{LineFault}
 use Rattle.tm_base.specs.declared.refused.LineFault.TheVariants.{Refused as RefusedFor, Fault, Memory}
-use Rattle.tm_tree.specs.declared.change.Change.{Change}
 use Rattle.tm_tree.specs.declared.item.Item.{Item}
 use Rattle.tm_tree.specs.declared.record.ItemRow.{ItemRow}
-use Rattle.tm_tree.specs.declared.rows.Touch.{Touch}
-use Rattle.tm_tree.specs.Refusing.{first_refused}
-use Rattle.tm_tree.specs.Touches.{touches}
 use Rattle.tm_image.specs.Load.{Fails}
-use Rattle.tm_image.specs.Reads.{Entries, Reads}
+use Rattle.tm_image.specs.Reads.{Entries, ReadsAsTable}
 use Rattle.tm_world.specs.Disk.{Image}
 use Rattle.tm_world.specs.declared.cause.Cause.{Cause}
 use Rattle.tm_world.specs.declared.cause.Cause.TheVariants as cause
 use Rattle.tm_world.specs.declared.world.Side.TheVariants.{Volume as OfVolume}
-use Rattle.tm_volume.specs.Changes.{change_tests, changed}
 use Rattle.tm_volume.specs.Reads.{SideReads, tag_bytes}
 use Rattle.tm_volume.specs.Room.{body_of}
 use Rattle.tm_volume_records.specs.Rules.{Tag, IsTagged, IsGoodVolume, IsLeastBad}
 use Rattle.tm_volume.specs.Stored.{StoredVolume}
-
--- a change: made exactly where no test refuses it, and refused without a change where one does
-abbrev pub MeetsChange : ℕ → StoredVolume → Change → Option ℕ → StoredVolume → Result (List Touch) LineFault → Type 0
-MeetsChange blocks old c moment new (Ok found) =
-    (first_refused (change_tests blocks old c moment) ≡ None) × (found ≡ touches old.volume.contents.tree c) × (new ≡ changed old c moment)
-MeetsChange blocks old c moment new (Err (RefusedFor why)) = (first_refused (change_tests blocks old c moment) ≡ Some why) × (new ≡ old)
-MeetsChange blocks old c moment new (Err (Fault side)) = side ≡ Side.Volume
-MeetsChange blocks old c moment new (Err Memory) = new ≡ old
 
 -- the item that a walk comes to, with a file's length in place of its bytes, or why the walk stops
 abbrev pub FindsRow : Result Item Refused → Result ItemRow LineFault → Type 0
@@ -40,9 +26,9 @@ FindsRow way (Err Memory) = Unit {0}
 -- a step of reading a volume's image fails, at this place: a step of every image's, or a record's rule, or the generations
 -- are spent
 abbrev pub FailsVolume : Image → Cause → ℕ → Type 0
-FailsVolume image cause.Record place = (entries : Entries) × (tag : Tag) × IsTagged tag × Reads OfVolume entries (tag_bytes tag) image × IsLeastBad entries tag place
+FailsVolume image cause.Record place = (entries : Entries) × (tag : Tag) × IsTagged tag × ReadsAsTable OfVolume entries (tag_bytes tag) image × IsLeastBad entries tag place
 FailsVolume image cause.Spent place =
-    (entries : Entries) × (tag : Tag) × IsTagged tag × Reads OfVolume entries (tag_bytes tag) image × IsGoodVolume entries tag × (tag.clean ≡ 0) × (tag.generation ≡ 2 ^ 62 - 1) × (place ≡ 0)
+    (entries : Entries) × (tag : Tag) × IsTagged tag × ReadsAsTable OfVolume entries (tag_bytes tag) image × IsGoodVolume entries tag × (tag.clean ≡ 0) × (tag.generation ≡ 2 ^ 62 - 1) × (place ≡ 0)
 FailsVolume image other place = Fails OfVolume image.count image.bytes other place
 
 -- ---- laws

@@ -3,7 +3,7 @@ use Rattle.std.specs.Prelude.{◌≡◌, ◌⊎◌, ℕ, ◌==◌, ◌<◌, fals
 use Rattle.std.specs.Option.{option_map}
 use Rattle.tm_gate.specs.Load.{IsUnformatted}
 use Rattle.tm_gate.specs.Tag.{volume_tag}
-use Rattle.tm_image.specs.Reads.{Entry, Entries, Reads}
+use Rattle.tm_image.specs.Reads.{Entry, Entries, ReadsAsTable}
 use Rattle.tm_items.specs.Computed.{items_of}
 use Rattle.tm_items.specs.Placings.{ReadsAs}
 use Rattle.tm_nodes.specs.declared.volume.VolumeHead.{VolumeHead}
@@ -45,7 +45,7 @@ pub record VolumeReads (image : Image) (s : StoredVolume) : Type 0 where
   pub entries : Entries
   pub tag : Tag
   pub tagged : IsTagged tag
-  pub reads : Reads Side.Volume entries (tag_bytes tag) image
+  pub reads : ReadsAsTable Side.Volume entries (tag_bytes tag) image
   pub good : IsGoodVolume entries tag
   pub is : VolumeIs entries tag s
 

@@ -1,29 +1,22 @@
 -- How much room a volume takes: arithmetic on what it holds, wherever its blocks lie.
-use Rattle.std.specs.Prelude.{ℕ, ◌+◌, ◌-◌, ◌*◌, nat_lt, Option, List, [], ◌∷◌, ◌++◌, length}
+use Rattle.std.specs.Prelude.{ℕ, ◌+◌, ◌-◌, ◌*◌, Option, List, length}
 use Rattle.std.specs.List.{sum_by}
 use Rattle.std.specs.Option.{option_map_or}
-use Rattle.tm_base.specs.declared.refused.Refused.TheVariants.{Full}
 use Rattle.tm_chain.specs.Blob.{blob_len}
 use Rattle.tm_image.specs.Layout.{blocks_for}
-use Rattle.tm_image.specs.Room.{need_of}
 use Rattle.tm_items.specs.Computed.{last_name}
 use Rattle.tm_items.specs.Placings.{Placed}
 use Rattle.tm_nodes.specs.declared.volume.VolumeHead.{VolumeHead}
 use Rattle.tm_nodes.specs.Headers.{volume_text}
 use Rattle.tm_nodes.specs.Items.{item_text}
 use Rattle.tm_nodes.specs.Paths.{paths_text}
-use Rattle.tm_tree.specs.declared.change.Change.{Change}
-use Rattle.tm_tree.specs.declared.change.Change.TheVariants as change
 use Rattle.tm_tree.specs.declared.item.Item.{Item}
 use Rattle.tm_tree.specs.declared.item.Item.TheVariants as item
 use Rattle.tm_tree.specs.declared.node.LeafRow.TheVariants as leaf
 use Rattle.tm_tree.specs.declared.record.ItemBody.{ItemBody}
 use Rattle.tm_tree.specs.declared.record.ItemBody.TheVariants as body
 use Rattle.tm_tree.specs.declared.record.ItemRow.{ItemRow}
-use Rattle.tm_tree.specs.Changes.{length_at, fixed_after}
-use Rattle.tm_tree.specs.Contents.{Contents}
 use Rattle.tm_tree.specs.Items.{bytes_of}
-use Rattle.tm_tree.specs.Refusing.{Tests}
 use Rattle.tm_tree.specs.States.{VolumeState}
 use Rattle.tm_volume.specs.Stored.{StoredVolume}
 
@@ -70,27 +63,3 @@ data_len s = blob_len (length (paths_text s.volume.contents.fixed)) + option_map
 -- how many blocks of an image of so many are free
 abbrev pub free_of : ℕ → StoredVolume → ℕ
 free_of blocks s = blocks - (3 + table_len s + data_len s)
-
--- ---- when a change doesn't fit
-
--- how many bytes a change stages: the whole new contents of a file, or all fixed paths
-abbrev pub staged_len : Contents → Change → ℕ
-staged_len v (change.Write p bytes) = length bytes
-staged_len v (change.Append p bytes) = length_at v.tree p + length bytes
-staged_len v (change.Fill p count seed) = count
-staged_len v (change.Fix p) = length (paths_text (fixed_after v.fixed (change.Fix p)))
-staged_len v (change.Unfix p) = length (paths_text (fixed_after v.fixed (change.Unfix p)))
-staged_len v _ = 0
-
--- staging so many blocks
-abbrev pub staging_tests : ℕ → StoredVolume → ℕ → Tests
-staging_tests blocks s staged = let need = staged + table_len s in (nat_lt (free_of blocks s) need, Full need (free_of blocks s)) ∷ []
-
--- the commit that follows, which makes `new` of s
-abbrev pub commit_tests : ℕ → StoredVolume → StoredVolume → ℕ → Tests
-commit_tests blocks s new staged =
-    let need = need_of (table_len s) (table_len new) (data_len s + staged - data_len new) in let free = free_of blocks s - staged in
-    (nat_lt free need, Full need free) ∷ []
-
-abbrev pub room_tests : ℕ → StoredVolume → StoredVolume → ℕ → Tests
-room_tests blocks s new staged = staging_tests blocks s staged ++ commit_tests blocks s new staged

@@ -76,6 +76,12 @@ pub record IsKept (m : Seen) : Type 0 where
   pub head_is : option_map (λ r. volume_of r.meta) (at head_key m.image.records) ≡ Some (Some m.head)
   pub sound : (bytes : ℕ → List ℕ) → IsSound (items_on m bytes)
 
+-- the rules of a volume and of its image hold, with some index
+pub record IsShelved (m : Seen) : Type 0 where
+  pub numbers : Numbers
+  pub shelf : IsShelf m numbers
+  pub image : IsSoundImage m.image
+
 -- no commit is under way, as many blocks are free as the table has, the side has so many blocks, and none is staged
 pub record IsReady (m : Seen) (blocks : ℕ) : Type 0 where
   pub settled : IsSettled m.image

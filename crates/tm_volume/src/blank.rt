@@ -1,12 +1,12 @@
 //! Formatting a side.
 ghost use Rattle.std.specs.Prelude.{◌≡◌, ◌⊎◌, ◌≤◌, ◌<◌, ◌^◌, ℕ, None, Some, IfOk, IsErrOf, Err};
 ghost use Rattle.tm_world.specs.Disk.{Image as ImageOf};
-ghost use Rattle.tm_world.specs.Faults.{NeverLess, Rose};
+ghost use Rattle.tm_world.specs.Faults.{BlamesOnly, NeverLess};
 ghost use Rattle.tm_world.specs.Log.{now};
 ghost use Rattle.tm_world.specs.Outside.{disk};
 ghost use Rattle.tm_world.specs.Runs.{Runs};
 ghost use Rattle.tm_base.specs.declared.refused.Refused.{Refused};
-ghost use Rattle.tm_base.specs.declared.refused.Side.{Side as Named};
+ghost use Rattle.tm_base.specs.declared.refused.Side.{Side as RefusedSide};
 ghost use Rattle.tm_volume.specs.Reads.{IsBlank, LeavesEither};
 ghost use Rattle.tm_volume.specs.Seen.{IsReady, StandsOn, stored_on};
 ghost use Rattle.tm_volume.specs.Stored.{new_stored};
@@ -15,7 +15,7 @@ ghost use Rattle.tm_base.specs.Days.{last_moment};
 ghost use Rattle.tm_nodes.specs.Headers.{volume_text, IsVolumeHead};
 
 use crate::Volume;
-use crate::place::meta_of;
+use crate::row::meta_of;
 use crate::tag::write_tag;
 use std::alloc::{AllocError, Global};
 use tm_base::{LineFault, Moment, Name};
@@ -25,7 +25,7 @@ use tm_nodes::{VolumeHead, volume_meta};
 use tm_records::{Body, Put};
 use tm_tree::{Attrs, ItemBody, ItemRow};
 use tm_volume_records::{FixedPaths, HEAD_KEY, ITEM_KEY};
-use tm_world::{Bytes, Part, Side, World};
+use tm_world::{Bytes, Side, World};
 
 /// The fewest blocks of a new volume.
 const FEWEST_BLOCKS: u32 = 8;
@@ -117,7 +117,7 @@ impl Volume {
         ensures blank { W.told → (result ≡ Err (LineFault.Refused Refused.Small)) ⊎ (result ≡ Err LineFault.Memory) → W.log world.new ≡ W.log world.old }
         ensures blocks { W.blocks world.new ≡ W.blocks world.old }
         ensures never_less { NeverLess (W.faults world.old) (W.faults world.new) }
-        ensures fault { (side : Named) → result ≡ Err (LineFault.Fault side) → (side ≡ Named.Volume) × Rose (W.faults world.old Part.Volume) (W.faults world.new Part.Volume) }
+        ensures fault { BlamesOnly RefusedSide.Volume result (W.faults world.old) (W.faults world.new) }
     {
         if blocks < FEWEST_BLOCKS {
             return Err(LineFault::Refused(tm_base::Refused::Small));

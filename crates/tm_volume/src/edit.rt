@@ -1,11 +1,11 @@
 //! What a change writes, and how that is committed.
-ghost use Rattle.std.specs.Prelude.{◌≡◌, ◌≢◌, ◌≤◌, ◌<◌, ℕ, Some, OnOk, OnErr, Err, length, unwrap_or};
+ghost use Rattle.std.specs.Prelude.{◌≡◌, ◌≤◌, ◌<◌, ℕ, Some, OnOk, OnErr, Err, length, unwrap_or};
+ghost use Rattle.tm_base.specs.LineFaults.{NoFault};
 ghost use Rattle.tm_base.specs.declared.refused.Refused.{Refused as RefusedFor};
-ghost use Rattle.tm_base.specs.declared.refused.Side.{Side as RefusedSide};
 ghost use Rattle.tm_image.specs.Commit.{changed, brought_by, released_by};
 ghost use Rattle.tm_image.specs.Room.{HasRoom, free_of, need_of, table_len};
 ghost use Rattle.tm_image.specs.Seen.{HasSameImage, IsSettled, staged};
-ghost use Rattle.tm_world.specs.Faults.{NeverLess, Rose};
+ghost use Rattle.tm_world.specs.Faults.{BlamesOnly, NeverLess};
 ghost use Rattle.tm_world.specs.Log.{now};
 ghost use Rattle.tm_world.specs.Outside.{disk};
 ghost use Rattle.tm_world.specs.Runs.{Runs};
@@ -17,37 +17,47 @@ ghost use Rattle.tm_volume.specs.Seen.{IsReady, StandsOn, stored_on};
 use crate::Volume;
 use crate::tag::write_tag;
 use std::alloc::AllocError;
-use tm_base::{LineFault, Name, Refused, Side as Named};
+use tm_base::{LineFault, Name, Refused, Side as RefusedSide};
 use tm_image::{Changes, ImageError};
 use tm_index::Index;
 use tm_records::Put;
 use tm_volume_records::FixedPaths;
-use tm_world::{Part, Side, World};
+use tm_world::{Side, World};
 
 /// A name that gets its number in the index.
 #[derive(Drop)]
-pub(crate) struct Entered {
+pub struct Entered {
+    /// The number of the folder that holds it.
     pub parent: u64,
+    /// The name.
     pub name: Name,
+    /// The number that it gets.
     pub number: u64,
 }
 
 /// A name that loses its number in the index.
 #[derive(Drop)]
-pub(crate) struct Left {
+pub struct Left {
+    /// The number of the folder that held it.
     pub parent: u64,
+    /// The name.
     pub name: Name,
 }
 
-/// What a change writes: keys that it removes, which rise, and records that it puts; the names that
-/// it sets and takes out in the index; the fixed paths, if they change; and the next number.
+/// What a change writes (`docs/FORMATS.md`, "Records of a volume").
 #[derive(Drop)]
-pub(crate) struct Edit {
+pub struct Edit {
+    /// The keys of the records that it removes, which rise.
     pub remove: Vec<u64>,
+    /// The records that it puts.
     pub put: Vec<Put>,
+    /// The name that it sets in the index, if there is one.
     pub enter: Option<Entered>,
+    /// The name that it takes out of the index, if there is one.
     pub leave: Option<Left>,
+    /// The paths that are excluded from backups, if they change.
     pub fixed: Option<FixedPaths>,
+    /// The next number afterwards, at most 2^62.
     pub next: u64,
 }
 
@@ -88,7 +98,7 @@ impl Volume {
     ///
     /// A stop leaves the volume before the edit or after it. After a fault the volume is not to be
     /// used again.
-    pub(crate) fn apply<W: World>(&mut self, world: &mut W, edit: Edit) -> Result<(), LineFault>
+    pub fn apply<W: World>(&mut self, world: &mut W, edit: Edit) -> Result<(), LineFault>
         requires edit { IsEdit self.old edit }
         requires settled { IsSettled self.old.image }
         requires space { HasRoom self.old.image }
@@ -99,10 +109,10 @@ impl Volume {
         ensures any_moment { W.told → let bytes = (disk Side.Volume (now (W.log world.old))).bytes in
             Runs Side.Volume (LeavesEither (Some (stored_on self.old bytes)) (Some (stored_on (after self.old edit) bytes))) (W.log world.old) (W.log world.new) }
         ensures stored { W.told → OnOk result (stored_on self.new (disk Side.Volume (now (W.log world.new))).bytes ≡ stored_on (after self.old edit) (disk Side.Volume (now (W.log world.old))).bytes) }
-        ensures ready { ((side : RefusedSide) → result ≢ Err (LineFault.Fault side)) → IsReady self.new (W.blocks world.old Side.Volume) }
-        ensures stands { W.told → ((side : RefusedSide) → result ≢ Err (LineFault.Fault side)) → StandsOn self.new (disk Side.Volume (now (W.log world.new))) }
-        ensures err { OnErr result (((side : RefusedSide) → result ≢ Err (LineFault.Fault side)) → IsBack self.old self.new) }
-        ensures untouched { OnErr result (((side : RefusedSide) → result ≢ Err (LineFault.Fault side)) → world.new ≡ world.old) }
+        ensures ready { NoFault result → IsReady self.new (W.blocks world.old Side.Volume) }
+        ensures stands { W.told → NoFault result → StandsOn self.new (disk Side.Volume (now (W.log world.new))) }
+        ensures err { OnErr result (NoFault result → IsBack self.old self.new) }
+        ensures untouched { OnErr result (NoFault result → world.new ≡ world.old) }
         ensures full { (why : RefusedFor) → result ≡ Err (LineFault.Refused why) → IsFullEdit self.old edit why }
         ensures fits { OnOk result (need_of_edit self.old edit ≤ free_of self.old.image) }
         ensures tried { (side : RefusedSide) → result ≡ Err (LineFault.Fault side) → need_of_edit self.old edit ≤ free_of self.old.image }
@@ -110,7 +120,7 @@ impl Volume {
         ensures looks { self.new.looks ≡ self.old.looks }
         ensures blocks { W.blocks world.new ≡ W.blocks world.old }
         ensures never_less { NeverLess (W.faults world.old) (W.faults world.new) }
-        ensures fault { (side : RefusedSide) → result ≡ Err (LineFault.Fault side) → (side ≡ Named.Volume) × Rose (W.faults world.old Part.Volume) (W.faults world.new Part.Volume) }
+        ensures fault { BlamesOnly RefusedSide.Volume result (W.faults world.old) (W.faults world.new) }
     {
         let Edit {
             remove,
@@ -140,7 +150,7 @@ impl Volume {
             }
             Err(ImageError::Fault) => {
                 leave(&mut self.numbers, &left);
-                Err(LineFault::Fault(Named::Volume))
+                Err(LineFault::Fault(RefusedSide::Volume))
             }
             Err(ImageError::Full { need, free }) => {
                 forget(&mut self.numbers, &entered);

@@ -13,7 +13,7 @@ use tm_tree::ItemRow;
 impl Volume {
     /// The number of the item that the walk down a path comes to, or why the walk stops. It takes
     /// no memory.
-    pub(crate) fn number_at(&self, path: &Path) -> Result<u64, Refused>
+    pub fn number_at(&self, path: &Path) -> Result<u64, Refused>
         ensures found { IfOk result (λ n. (bytes : ℕ → List ℕ) → FoundAt (items_on self.now bytes) (tree_on self.now bytes) path.now n) }
         ensures refused { IfErr result (λ why. (bytes : ℕ → List ℕ) → walk (tree_on self.now bytes) path.now ≡ Err why) }
     {

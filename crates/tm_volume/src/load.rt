@@ -43,15 +43,9 @@ impl Volume {
         ensures fault { IsErrOf result LoadError.Fault → Rose (W.faults world.old Part.Volume) (W.faults world.new Part.Volume) }
     {
         standing_is_read();
-        let image = match Image::load(alloc, world, Side::Volume, blocks) {
-            Ok(image) => image,
-            Err(error) => return Err(error),
-        };
+        let image = Image::load(alloc, world, Side::Volume, blocks)?;
         let tag = read_tag(image.tag());
-        let contents = match check_records(alloc, world, &image, tag.clean, tag.next) {
-            Ok(contents) => contents,
-            Err(error) => return Err(error),
-        };
+        let contents = check_records(alloc, world, &image, tag.clean, tag.next)?;
         if !tag.clean && tag.generation >= LAST_GENERATION {
             return Err(LoadError::Bad {
                 cause: Cause::Spent,

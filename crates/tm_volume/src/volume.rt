@@ -1,8 +1,12 @@
 //! A volume in memory, and what it says.
-ghost use Rattle.std.specs.Prelude.{◌≡◌, ◌==◌, length};
-ghost use Rattle.tm_volume.specs.Seen.{IsKept};
+ghost use Rattle.std.specs.Prelude.{◌≡◌, ◌==◌, ◌+◌, ℕ, IfOk, length};
+ghost use Rattle.tm_image.specs.Reads.{data_len};
+ghost use Rattle.tm_image.specs.Room.{free_of, table_len};
+ghost use Rattle.tm_nodes.specs.Headers.{volume_text};
+ghost use Rattle.tm_volume.specs.Seen.{IsKept, IsReady, IsShelved};
 
-use std::alloc::Global;
+use crate::blank::meta_of_head;
+use std::alloc::{AllocError, Global};
 use std::marker::Model;
 use tm_base::Name;
 use tm_image::Image;
@@ -10,6 +14,7 @@ use tm_index::Index;
 use tm_nodes::VolumeHead;
 use tm_tree::PathList;
 use tm_volume_records::FixedPaths;
+use tm_world::Bytes;
 
 /// A volume: its image, and the number of the item at each place.
 ///
@@ -94,5 +99,35 @@ impl Volume {
         ensures { result ≡ self.now.looks }
     {
         self.looks
+    }
+
+    /// The paths that are excluded from backups, as they are changed. It takes no memory.
+    pub fn fixed_paths(&self) -> &FixedPaths
+        ensures { result.now ≡ self.now.fixed }
+    {
+        &self.fixed
+    }
+
+    /// The meta of its head (`docs/FORMATS.md`, "Records of a volume"). It fails only for want of
+    /// memory.
+    pub fn head_meta(&self) -> Result<Bytes, AllocError>
+        ensures { IfOk result (λ meta. meta ≡ volume_text self.now.head) }
+    {
+        meta_of_head(self.alloc, &self.head)
+    }
+
+    /// Where it takes its memory.
+    pub fn alloc(&self) -> Global {
+        self.alloc
+    }
+
+    /// Nothing: the rules that it keeps, for proofs that need them. It takes no memory.
+    pub fn rules(&self)
+        ensures shelved { IsShelved self.now }
+        ensures room { (blocks : ℕ) → IsReady self.now blocks → free_of self.now.image + 3 + table_len self.now.image.records + data_len self.now.image.records ≡ blocks }
+    {
+        // They come with the rules that the image keeps.
+        let _ = self.image.total();
+        let _ = self.image.free();
     }
 }

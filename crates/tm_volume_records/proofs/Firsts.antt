@@ -1,7 +1,7 @@
 -- The first number that breaks a rule.
 use Rattle.std.proofs.Common.{◌≡◌, inl, inr, ℕ, ◌<◌, ◌≤◌, true, false, List, None, ◌∙◌, subst, arith}
 use Rattle.tm_items.specs.Index.{Numbers, IsIndex, IsLoaded}
-use Rattle.tm_items.specs.Rules.{Keeps as KeepsPlace, IsSound}
+use Rattle.tm_items.specs.Rules.{FollowsRules, IsSound}
 use Rattle.tm_items.proofs.Loading.{none_below_root, load_starts, load_ends, root_breaks}
 use Rattle.tm_records.specs.Records.{Records}
 use Rattle.tm_volume_records.specs.Loads.{row_in, is_root_row, items_from, IsWorst, IsFirstBad}
@@ -31,7 +31,7 @@ module _ (records : Records) (next : ℕ) where
   }
 
   module _ (worst : ℕ) (w : IsWorst records next 65537 worst) (n : ℕ) (numbers : Numbers) (loaded : (bytes : ℕ → List ℕ) → IsLoaded (items_from records bytes) n numbers) (low : 2 ≤ n) where
-    pub first_place : n < worst → ((bytes : ℕ → List ℕ) → ¬ KeepsPlace (items_from records bytes) n) → IsFirstBad records next n
+    pub first_place : n < worst → ((bytes : ℕ → List ℕ) → ¬ FollowsRules (items_from records bytes) n) → IsFirstBad records next n
     first_place before broken = record {
       least = omega (arith, low);
       most = omega (arith, before, w.most);

@@ -18,19 +18,7 @@ use Rattle.tm_nodes.specs.Paths.{IsPath, ArePaths}
 use Rattle.tm_nodes.specs.Records.{machine_of}
 use Rattle.tm_tree.specs.Contents.{is_fixed, with_fixed, without_fixed}
 use Rattle.tm_volume_records.proofs.FixedLists.{path_total, insert_sorted, insert_length, insert_there, insert_gap, remove_there, remove_gap, comparisons_rise, IsGap, remove_sorted, remove_shorter}
-
-name_in : (name : List ℕ) (o : Option (List ℕ)) → machine_of (machine_text name) ≡ o → is_some o ≡ true → IsName name
-unfolding short_text u8_text
-name_in name None is some = absurd (let bad : false ≡ true = some in cc)
-name_in name (Some other) is some =
-    let read = machine_finds.is (machine_text name) other is in
-    subst IsName (sym (ap (drop 1) read.spelled)) read.rules
-
--- a name keeps the rules of one
-pub name_had : (name : List ℕ) → ∥ IsName name ∥₁ → IsName name
-name_had name had =
-    name_in name (machine_of (machine_text name)) refl
-    (∥∥₁_elim had (Bool-set _ _) (λ is. ap is_some (machine_finds.again (machine_text name) name (record { rules = is; spelled = refl }))))
+use Rattle.tm_nodes.proofs.Fields.{name_had}
 
 -- no paths
 pub no_paths : ArePaths []

@@ -19,6 +19,7 @@ use Rattle.tm_volume_records.specs.Loads.{IfBadAt, HeadIn, AreRows}
 use Rattle.tm_volume_records.specs.Records.{head_key, journal_key, entry_at}
 use Rattle.tm_volume_records.specs.Rules.{Tag, HasHead, HasJournal, IsJournal}
 use Rattle.tm_volume_records.proofs.Slots.{entry_is}
+use Rattle.tm_base.proofs.Facts.{some_is}
 
 pub bad_at : (A : Type 0) (error : LoadError) (key : ℕ) (P : Type 0) → error ≡ Bad cause.Record key → P → IfBadAt {A = A} (Err error) key P
 bad_at A error key P is p = subst (λ (e : LoadError). IfBadAt {A = A} (Err e) key P) (sym is) (refl, refl, p)
@@ -42,9 +43,6 @@ is_zero n h = let t : (n == 0) ≡ true = sym h in grind (arith, nat_tests)
 
 pub is_some : (n : ℕ) → false ≡ (n == 0) → n ≡ 0 → ⊥
 is_some n h e = let bad : false ≡ true = h ∙ ap (λ m. m == 0) e in cc
-
-some_is : {X : Type 0} (a b : X) → Some a ≡ Some b → a ≡ b
-some_is a b h = cc
 
 -- the record of an entry
 pub record OfRecord (bytes : ℕ → List ℕ) (key : ℕ) (records : Records) (e : Entry) : Type 0 where

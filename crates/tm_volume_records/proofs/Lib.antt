@@ -1,5 +1,6 @@
 pub mod Slots
 pub mod Entering
+mod Lengths
 pub mod Keys
 pub mod Firsts
 pub mod Numbering

@@ -1,18 +1,18 @@
 -- Which keys keep their rules, as they are passed by rising key.
-use Rattle.std.proofs.Common.{◌≡◌, ◌≢◌, ⊎_elim, inl, inr, ℕ, ◌+◌, ◌-◌, ◌^◌, ◌<◌, ◌≤◌, List, Option, Some, None, Err, refl, sym, ◌∙◌, ap, subst, arith}
+use Rattle.std.proofs.Common.{◌≡◌, ◌≢◌, ⊎_elim, inl, inr, ℕ, ◌+◌, ◌-◌, ◌^◌, ◌<◌, ◌≤◌, List, Option, Some, None, Result, Err, refl, sym, ◌∙◌, ap, subst, arith}
 use Rattle.std.specs.Option.{option_map, IfSome, IsSome}
 use Rattle.std.proofs.lemmas.Bool.{cases_lt}
 use Rattle.tm_image.specs.Reads.{Entry, Entries, entry_of, entries_of}
 use Rattle.tm_image.specs.declared.error.LoadError.{LoadError}
 use Rattle.tm_image.specs.declared.error.LoadError.TheVariants.{Unformatted, Bad, Fault, Memory}
-use Rattle.tm_items.specs.Rules.{Keeps as KeepsPlace, IsSound}
+use Rattle.tm_items.specs.Rules.{FollowsRules, IsSound}
 use Rattle.tm_nodes.specs.Records.{item_of}
 use Rattle.tm_records.specs.declared.record.Record.{Record}
 use Rattle.tm_records.specs.Records.{Records, at}
 use Rattle.tm_world.specs.declared.cause.Cause.TheVariants as cause
 use Rattle.tm_volume_records.specs.Loads.{IfBadAt, IfBadKey, ArePassed, IsOwn, KeepsOwn, IsFirstBad, items_from}
 use Rattle.tm_volume_records.specs.Records.{item_key, most_number, entry_at}
-use Rattle.tm_volume_records.specs.Rules.{Tag, HasData, HasHead, HasJournal, HasItem, IsItem, Keeps, IsGoodVolume, IsLeastBad}
+use Rattle.tm_volume_records.specs.Rules.{Tag, HasData, HasHead, HasJournal, HasItem, IsItem, IsGoodKey, IsGoodVolume, IsLeastBad}
 use Rattle.tm_volume_records.proofs.Entering.{data_length}
 use Rattle.tm_volume_records.proofs.Slots.{entry_is}
 
@@ -21,11 +21,16 @@ use Rattle.tm_volume_records.proofs.Slots.{entry_is}
 pub key_bad : (A : Type 0) (error : LoadError) (key : ℕ) (P : ℕ → Type 0) → error ≡ Bad cause.Record key → P key → IfBadKey {A = A} (Err error) P
 key_bad A error key P is p = subst (λ (e : LoadError). IfBadKey {A = A} (Err e) P) (sym is) (refl, p)
 
-pub key_bad_at : (A B : Type 0) (error : LoadError) (key : ℕ) (P : ℕ → Type 0) (Q : Type 0) → (Q → P key) → IfBadAt {A = A} (Err error) key Q → IfBadKey {A = B} (Err error) P
-key_bad_at A B Unformatted key P Q f h = h
-key_bad_at A B (Bad why place) key P Q f h = (h.0, subst P (sym h.1) (f h.2))
-key_bad_at A B Fault key P Q f h = tt
-key_bad_at A B Memory key P Q f h = tt
+-- a call hands on the failure of another, which answers `Bad` for one key alone
+pub key_bad_at : (A : Type 0) {B : Type 0} (result : Result B LoadError) (error : LoadError) (key : ℕ) (P : ℕ → Type 0) (Q : Type 0) → result ≡ Err error → (Q → P key) → IfBadAt {A = A} (Err error) key Q
+    → IfBadKey result P
+key_bad_at A {B} result error key P Q is f h = subst (λ (r : Result B LoadError). IfBadKey r P) (sym is) (handed error h)
+  where
+    handed : (e : LoadError) → IfBadAt {A = A} (Err e) key Q → IfBadKey {A = B} (Err e) P
+    handed Unformatted h = h
+    handed (Bad why place) h = (h.0, subst P (sym h.1) (f h.2))
+    handed Fault h = tt
+    handed Memory h = tt
 
 -- ---- an item by itself
 
@@ -71,7 +76,7 @@ module _ (bytes : ℕ → List ℕ) (records : Records) (tag : Tag) where
       of_option None h = cc
       of_option (Some r) h = refl
 
-  keeps_none : (key : ℕ) → at key records ≡ None → IsApart key → Keeps (entries_of bytes records) tag key
+  keeps_none : (key : ℕ) → at key records ≡ None → IsApart key → IsGoodKey (entries_of bytes records) tag key
   keeps_none key none apart = record {
     known = λ some. let bad : IsSome {T = Entry} None = subst (λ o. IsSome o) (gone key none) some in cc;
     head = λ is. absurd (apart.0 is);
@@ -79,7 +84,7 @@ module _ (bytes : ℕ → List ℕ) (records : Records) (tag : Tag) where
     item = λ n least most is. absurd (apart.2 n least most is);
   }
 
-  breaks_some : (key : ℕ) → IsSome (at key records) → IsApart key → ¬ Keeps (entries_of bytes records) tag key
+  breaks_some : (key : ℕ) → IsSome (at key records) → IsApart key → ¬ IsGoodKey (entries_of bytes records) tag key
   breaks_some key some apart keeps = ⊎_elim
       (λ (is : key ≡ 1). apart.0 is)
       (λ rest. ⊎_elim
@@ -88,7 +93,7 @@ module _ (bytes : ℕ → List ℕ) (records : Records) (tag : Tag) where
       rest)
       (keeps.known (there key some))
 
-  keeps_head : HasHead (entries_of bytes records) → Keeps (entries_of bytes records) tag 1
+  keeps_head : HasHead (entries_of bytes records) → IsGoodKey (entries_of bytes records) tag 1
   keeps_head has = record {
     known = λ some. inl refl;
     head = λ is. has;
@@ -96,7 +101,7 @@ module _ (bytes : ℕ → List ℕ) (records : Records) (tag : Tag) where
     item = λ n least most is. absurd (omega (arith, is));
   }
 
-  keeps_journal : HasJournal (entries_of bytes records) tag → Keeps (entries_of bytes records) tag 2
+  keeps_journal : HasJournal (entries_of bytes records) tag → IsGoodKey (entries_of bytes records) tag 2
   keeps_journal has = record {
     known = λ some. inr (inl refl);
     head = λ is. absurd (omega (arith, is));
@@ -104,7 +109,7 @@ module _ (bytes : ℕ → List ℕ) (records : Records) (tag : Tag) where
     item = λ n least most is. absurd (omega (arith, is));
   }
 
-  keeps_item : (n : ℕ) → 1 ≤ n → n ≤ 65536 → HasItem (entries_of bytes records) tag.next n → Keeps (entries_of bytes records) tag (2 ^ 62 + n)
+  keeps_item : (n : ℕ) → 1 ≤ n → n ≤ 65536 → HasItem (entries_of bytes records) tag.next n → IsGoodKey (entries_of bytes records) tag (2 ^ 62 + n)
   keeps_item n least most has = record {
     known = λ some. inr (inr (n, least, most, refl));
     head = λ is. absurd (omega (arith, is, least));
@@ -112,7 +117,7 @@ module _ (bytes : ℕ → List ℕ) (records : Records) (tag : Tag) where
     item = λ m low high is. let same : n ≡ m = omega (arith, is) in subst (λ k. HasItem (entries_of bytes records) tag.next k) same has;
   }
 
-  has_item : (n : ℕ) → KeepsOwn records tag.next n → KeepsPlace (items_from records bytes) n → HasItem (entries_of bytes records) tag.next n
+  has_item : (n : ℕ) → KeepsOwn records tag.next n → FollowsRules (items_from records bytes) n → HasItem (entries_of bytes records) tag.next n
   has_item n own place = record {
     item = subst (λ o. IfSome o (IsItem tag.next)) (sym (entry_is bytes (item_key n) records)) (own_item bytes tag.next (at (item_key n) records) own);
     place = place;
@@ -123,10 +128,10 @@ module _ (bytes : ℕ → List ℕ) (records : Records) (tag : Tag) where
 
   -- ---- one key more
 
-  pub passed_more : (key : ℕ) → ArePassed (entries_of bytes records) tag key → Keeps (entries_of bytes records) tag key → ArePassed (entries_of bytes records) tag (key + 1)
+  pub passed_more : (key : ℕ) → ArePassed (entries_of bytes records) tag key → IsGoodKey (entries_of bytes records) tag key → ArePassed (entries_of bytes records) tag (key + 1)
   passed_more key passed keeps other lt = ⊎_elim
       (λ (before : other < key). passed other before)
-      (λ (here : key ≤ other). let same : key ≡ other = omega (arith, lt, here) in subst (λ k. Keeps (entries_of bytes records) tag k) same keeps)
+      (λ (here : key ≤ other). let same : key ≡ other = omega (arith, lt, here) in subst (λ k. IsGoodKey (entries_of bytes records) tag k) same keeps)
       (cases_lt other key)
 
   -- nothing stands at the keys between
@@ -184,7 +189,7 @@ module _ (bytes : ℕ → List ℕ) (records : Records) (tag : Tag) where
       (λ (from : 2 ^ 62 + 1 ≤ other).
       let m : ℕ = other - 2 ^ 62 in
       let is : 2 ^ 62 + (other - 2 ^ 62) ≡ other = omega (arith, from) in
-      subst (λ k. Keeps (entries_of bytes records) tag k) is (keeps_item (other - 2 ^ 62) (omega (arith, from)) (omega (arith, from, lt, few)) (has (other - 2 ^ 62) (omega (arith, from)) (omega (arith, from, lt)))))
+      subst (λ k. IsGoodKey (entries_of bytes records) tag k) is (keeps_item (other - 2 ^ 62) (omega (arith, from)) (omega (arith, from, lt, few)) (has (other - 2 ^ 62) (omega (arith, from)) (omega (arith, from, lt)))))
       (cases_lt other (2 ^ 62 + 1))
 
   pub bad_item : ArePassed (entries_of bytes records) tag (2 ^ 62 + 1) → (n : ℕ) → IsFirstBad records tag.next n → IsLeastBad (entries_of bytes records) tag (2 ^ 62 + n)

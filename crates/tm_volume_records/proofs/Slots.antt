@@ -17,6 +17,7 @@ use Rattle.tm_items.specs.Computed.{Placings, items_of, AreNumbered}
 use Rattle.std.specs.Bool.{one_answer}
 use Rattle.tm_items.proofs.Reading.{number_decides}
 use Rattle.tm_volume_records.specs.Records.{item_key, is_item_key, entry_at, placed_of, numbered, placing_of, placings_of}
+use Rattle.tm_base.proofs.Facts.{both_true}
 
 abbrev pub Rising : {X : Type 0} → List (ℕ × X) → Type 0
 Rising es = IsStrictlySortedBy nat_cmp (keys_of es)
@@ -41,14 +42,10 @@ same_test : (a b c d : ℕ) → a + d ≡ b + c → is_at (nat_cmp a) b ≡ is_a
 same_test a b c d h = one_answer (is_at (nat_cmp a) b) (is_at (nat_cmp c) d) (number_decides a b)
     (λ t. let e : c ≡ d = (number_decides c d).0 t in omega arith, λ e. (number_decides c d).1 (let f : c ≡ d = omega arith in f))
 
-both : (a b : Bool) → (a && b) ≡ true → (a ≡ true) × (b ≡ true)
-both true b h = (refl, h)
-both false b h = cc
-
 pub key_range : (k : ℕ) → is_item_key k ≡ true → (2 ^ 62 + 1 ≤ k) × (k ≤ 2 ^ 62 + 65536)
 key_range k h =
-    let lo = (both (nat_le (2 ^ 62 + 1) k) (nat_le k (2 ^ 62 + 65536)) h).0 in
-    let hi = (both (nat_le (2 ^ 62 + 1) k) (nat_le k (2 ^ 62 + 65536)) h).1 in
+    let lo = (both_true (nat_le (2 ^ 62 + 1) k) (nat_le k (2 ^ 62 + 65536)) h).0 in
+    let hi = (both_true (nat_le (2 ^ 62 + 1) k) (nat_le k (2 ^ 62 + 65536)) h).1 in
     (grind (arith, nat_tests), grind (arith, nat_tests))
 
 pub range_key : (k : ℕ) → 2 ^ 62 + 1 ≤ k → k ≤ 2 ^ 62 + 65536 → is_item_key k ≡ true

@@ -1,11 +1,12 @@
--- The spots of items and the least bad number, a number more.
-use Rattle.std.proofs.Common.{◌≡◌, ◌↔◌, ⊎_elim, ℕ, zero, suc, ◌+◌, ◌<◌, ◌≤◌, Bool, true, false, IsTrue, List, [], ◌∷◌, ◌++◌, length, Option, Some, None, refl, sym, ◌∙◌, ap, subst, arith, length-append}
+-- The positions of items and the least bad number, a number more.
+use Rattle.std.proofs.Common.{◌≡◌, ◌↔◌, ⊎_elim, ℕ, zero, suc, ◌+◌, ◌<◌, ◌≤◌, Bool, true, false, IsTrue, List, [], ◌∷◌, ◌++◌, length, Option, Some, None, IfSome, refl, sym, ◌∙◌, ap, subst, arith, length-append}
 use Rattle.std.specs.List.{slice_get}
 use Rattle.std.specs.Option.{option_map}
 use Rattle.std.proofs.lemmas.Bool.{cases_lt}
+use Rattle.std.proofs.lemmas.Option.{slice_get_past}
 use Rattle.tm_records.specs.Records.{Records}
-use Rattle.tm_volume_records.specs.declared.spots.Spot.{Spot}
-use Rattle.tm_volume_records.specs.Loads.{row_in, spot_of_row, spot_or, KeepsOwn, AreSpotsBelow, IsWorst}
+use Rattle.tm_volume_records.specs.declared.positions.Position.{Position}
+use Rattle.tm_volume_records.specs.Loads.{row_in, row_of_record, position_at, position_of_row, position_or, IsOwn, KeepsOwn, ArePositionsBelow, IsWorst, NoneBetween}
 
 module _ {X : Type 0} where
   get_before : (xs : List X) (x : X) (k : ℕ) → k < length xs → slice_get (xs ++ x ∷ []) k ≡ slice_get xs k
@@ -19,17 +20,48 @@ module _ {X : Type 0} where
   get_last (y ∷ xs) x zero e = absurd (omega (arith, e))
   get_last (y ∷ xs) x (suc k) e = get_last xs x k (omega (arith, e))
 
-pub spots_none : (records : Records) → AreSpotsBelow records 1 (None ∷ [])
-spots_none records = record { many = refl; none = refl; each = λ m low high. absurd (omega (arith, low, high)) }
+-- an empty place more changes nothing
+pub none_pushed : (xs : List (Option Position)) (m : ℕ) → position_at (xs ++ None ∷ []) m ≡ position_at xs m
+none_pushed xs m = ⊎_elim
+    (λ (before : m < length xs). ap position_or (get_before xs None m before))
+    (λ (from : length xs ≤ m). ⊎_elim
+    (λ (past : length xs < m). ap position_or (slice_get_past (xs ++ None ∷ []) m (omega (arith, past, length-append xs (None ∷ [])))) ∙ sym (ap position_or (slice_get_past xs m from)))
+    (λ (here : m ≤ length xs). ap position_or (get_last xs None m (omega (arith, here, from))) ∙ sym (ap position_or (slice_get_past xs m from)))
+    (cases_lt (length xs) m))
+    (cases_lt m (length xs))
 
-pub spots_more : (records : Records) (n : ℕ) (spots : List (Option Spot)) (spot : Option Spot) → 1 ≤ n → AreSpotsBelow records n spots → spot ≡ option_map spot_of_row (row_in records n)
-    → AreSpotsBelow records (n + 1) (spots ++ spot ∷ [])
-spots_more records n spots spot low old is = record {
-  many = omega (arith, old.many, length-append spots (spot ∷ []));
-  none = ap spot_or (get_before spots spot 0 (omega (arith, old.many, low))) ∙ old.none;
+pub last_position : (xs : List (Option Position)) (position : Option Position) (n : ℕ) → length xs ≡ n → position_at (xs ++ position ∷ []) n ≡ position
+last_position xs position n many = ap position_or (get_last xs position n (sym many)) ∙ position_itself position
+  where
+    position_itself : (o : Option Position) → position_or (Some o) ≡ o
+    position_itself o = refl
+
+pub position_before : (xs : List (Option Position)) (position : Option Position) (m : ℕ) → m < length xs → position_at (xs ++ position ∷ []) m ≡ position_at xs m
+position_before xs position m lt = ap position_or (get_before xs position m lt)
+
+pub positions_none : (records : Records) → ArePositionsBelow records 1 []
+positions_none records = record { many = omega arith; none = refl; each = λ m low high. absurd (omega (arith, low, high)) }
+
+-- numbers that no item has
+pub positions_past : (records : Records) (from n : ℕ) (positions : List (Option Position)) → from ≤ n → ArePositionsBelow records from positions → NoneBetween records from n → ArePositionsBelow records n positions
+positions_past records from n positions up old none = record {
+  many = omega (arith, old.many, up);
+  none = old.none;
   each = λ m least lt. ⊎_elim
-      (λ (before : m < n). ap spot_or (get_before spots spot m (omega (arith, old.many, before))) ∙ old.each m least before)
-      (λ (here : n ≤ m). let same : m ≡ n = omega (arith, lt, here) in ap spot_or (get_last spots spot m (omega (arith, old.many, same))) ∙ is ∙ ap (λ k. option_map spot_of_row (row_in records k)) (sym same))
+      (λ (before : m < from). old.each m least before)
+      (λ (gap : from ≤ m). ap position_or (slice_get_past positions m (omega (arith, old.many, gap))) ∙ sym (ap (λ o. option_map position_of_row (row_of_record o)) (none m gap lt)))
+      (cases_lt m from);
+}
+
+-- and one that an item has
+pub positions_more : (records : Records) (n : ℕ) (positions new : List (Option Position)) (position : Option Position) → 1 ≤ n → ArePositionsBelow records n positions → position ≡ option_map position_of_row (row_in records n)
+    → length new ≡ n + 1 → position_at new n ≡ position → ((m : ℕ) → m < n → position_at new m ≡ position_at positions m) → ArePositionsBelow records (n + 1) new
+positions_more records n positions new position low old is many here others = record {
+  many = omega (arith, many);
+  none = others 0 (omega (arith, low)) ∙ old.none;
+  each = λ m least lt. ⊎_elim
+      (λ (before : m < n). others m before ∙ old.each m least before)
+      (λ (last : n ≤ m). let same : n ≡ m = omega (arith, lt, last) in subst (λ k. position_at new k ≡ option_map position_of_row (row_in records k)) same (here ∙ is))
       (cases_lt m n);
 }
 
@@ -40,6 +72,22 @@ worst_none records next = record {
   below = λ m low high lt. absurd (omega (arith, low, high));
   bad = λ lt. absurd (omega (arith, lt));
   high = λ le. refl;
+}
+
+-- numbers that no item has are not bad
+pub worst_past : (records : Records) (next from n worst : ℕ) → from ≤ n → n ≤ 65537 → IsWorst records next from worst → NoneBetween records from n → IsWorst records next n worst
+worst_past records next from n worst up few old none = record {
+  least = old.least;
+  most = old.most;
+  below = λ m least lt under. ⊎_elim
+      (λ (before : m < from). old.below m least before under)
+      (λ (gap : from ≤ m). subst (λ o. IfSome o (IsOwn next)) (sym (none m gap lt)) tt)
+      (cases_lt m from);
+  bad = λ lt own. ⊎_elim
+      (λ (before : worst < from). old.bad before own)
+      (λ (gap : from ≤ worst). absurd (omega (arith, old.high gap, lt, few)))
+      (cases_lt worst from);
+  high = λ le. old.high (omega (arith, le, up));
 }
 
 module _ (records : Records) (next n worst worst2 : ℕ) (few : n < 65537) (low : 1 ≤ n) (old : IsWorst records next n worst) where

@@ -5,7 +5,7 @@ use Rattle.std.specs.Option.{option_map}
 use Rattle.tm_image.specs.Reads.{Entries, entries_of}
 use Rattle.tm_items.specs.Computed.{items_of}
 use Rattle.tm_items.specs.Placings.{Placed, Items}
-use Rattle.tm_items.specs.Rules.{Keeps as KeepsPlace}
+use Rattle.tm_items.specs.Rules.{FollowsRules}
 use Rattle.tm_image.specs.declared.error.LoadError.{LoadError}
 use Rattle.tm_image.specs.declared.error.LoadError.TheVariants.{Unformatted, Bad, Fault, Memory}
 use Rattle.tm_nodes.specs.declared.volume.VolumeHead.{VolumeHead}
@@ -19,9 +19,9 @@ use Rattle.tm_tree.specs.Extras.{value_of}
 use Rattle.tm_tree.specs.declared.record.ItemBody.{ItemBody}
 use Rattle.tm_tree.specs.declared.record.ItemBody.TheVariants as body
 use Rattle.tm_tree.specs.declared.record.ItemRow.{ItemRow}
-use Rattle.tm_volume_records.specs.declared.spots.Spot.{Spot}
+use Rattle.tm_volume_records.specs.declared.positions.Position.{Position}
 use Rattle.tm_volume_records.specs.Records.{head_key, item_key, placings_of}
-use Rattle.tm_volume_records.specs.Rules.{Tag, HasData, HasStamp, IsDrawn, Keeps}
+use Rattle.tm_volume_records.specs.Rules.{Tag, HasData, HasStamp, IsDrawn, IsGoodKey}
 
 -- ---- rows
 
@@ -44,38 +44,42 @@ pub record IsOwn (next : ℕ) (r : Record) : Type 0 where
 abbrev pub KeepsOwn : Records → ℕ → ℕ → Type 0
 KeepsOwn records next n = IfSome (at (item_key n) records) (IsOwn next)
 
--- ---- spots: where the item of a number stands, and whether it is a folder
+-- ---- positions: where the item of a number stands, under which name, and whether it is a folder
 
 abbrev pub is_folder_body : ItemBody → Bool
 is_folder_body (body.Folder attrs) = true
 is_folder_body (body.Leaf leaf) = false
 
-abbrev pub spot_of_row : ItemRow → Spot
-spot_of_row row = record { parent = row.parent; is_folder = is_folder_body row.body }
+abbrev pub position_of_row : ItemRow → Position
+position_of_row row = record { parent = row.parent; name = row.name; is_folder = is_folder_body row.body }
 
-abbrev pub spot_or : Option (Option Spot) → Option Spot
-spot_or None = None
-spot_or (Some spot) = spot
+abbrev pub position_or : Option (Option Position) → Option Position
+position_or None = None
+position_or (Some position) = position
 
-abbrev pub spot_at : List (Option Spot) → ℕ → Option Spot
-spot_at spots n = spot_or (slice_get spots n)
+abbrev pub position_at : List (Option Position) → ℕ → Option Position
+position_at positions n = position_or (slice_get positions n)
 
-abbrev pub is_folder_spot : Option Spot → Bool
-is_folder_spot None = false
-is_folder_spot (Some spot) = spot.is_folder
+abbrev pub is_folder_position : Option Position → Bool
+is_folder_position None = false
+is_folder_position (Some position) = position.is_folder
 
-abbrev pub spot_of : Placed → Spot
-spot_of x = record { parent = x.parent; is_folder = is_folder x.item }
+abbrev pub position_of : Placed → Position
+position_of x = record { parent = x.parent; name = x.name; is_folder = is_folder x.item }
 
--- the spots are those of the items
-pub record AreSpots (items : Items) (spots : List (Option Spot)) : Type 0 where
-  pub each : (n : ℕ) → spot_at spots n ≡ option_map spot_of (items n)
+-- the positions are those of the items
+pub record ArePositions (items : Items) (positions : List (Option Position)) : Type 0 where
+  pub each : (n : ℕ) → position_at positions n ≡ option_map position_of (items n)
 
--- the spots below a number are those of the records
-pub record AreSpotsBelow (records : Records) (n : ℕ) (spots : List (Option Spot)) : Type 0 where
-  pub many : length spots ≡ n
-  pub none : spot_at spots 0 ≡ None
-  pub each : (m : ℕ) → 1 ≤ m → m < n → spot_at spots m ≡ option_map spot_of_row (row_in records m)
+-- the positions below a number are those of the records
+pub record ArePositionsBelow (records : Records) (n : ℕ) (positions : List (Option Position)) : Type 0 where
+  pub many : length positions ≤ n
+  pub none : position_at positions 0 ≡ None
+  pub each : (m : ℕ) → 1 ≤ m → m < n → position_at positions m ≡ option_map position_of_row (row_in records m)
+
+-- no item has a number from one on and below another
+abbrev pub NoneBetween : Records → ℕ → ℕ → Type 0
+NoneBetween records from n = (m : ℕ) → from ≤ m → m < n → at (item_key m) records ≡ None
 
 -- ---- the least number of a record that is bad by itself, or one above all
 
@@ -106,8 +110,8 @@ pub record IsFirstBad (records : Records) (next n : ℕ) : Type 0 where
   pub least : 1 ≤ n
   pub most : n ≤ 65_536
   pub own : (m : ℕ) → 1 ≤ m → m < n → KeepsOwn records next m
-  pub place : (bytes : ℕ → List ℕ) (m : ℕ) → m < n → KeepsPlace (items_from records bytes) m
-  pub bad : (bytes : ℕ → List ℕ) → KeepsOwn records next n → KeepsPlace (items_from records bytes) n → ⊥
+  pub place : (bytes : ℕ → List ℕ) (m : ℕ) → m < n → FollowsRules (items_from records bytes) m
+  pub bad : (bytes : ℕ → List ℕ) → KeepsOwn records next n → FollowsRules (items_from records bytes) n → ⊥
 
 -- ---- the head and the journal
 
@@ -134,7 +138,7 @@ pub record AreRows (capacity next : ℕ) (bytes : List ℕ) : Type 0 where
 
 -- every key below this one keeps its rules
 abbrev pub ArePassed : Entries → Tag → ℕ → Type 0
-ArePassed entries tag key = (other : ℕ) → other < key → Keeps entries tag other
+ArePassed entries tag key = (other : ℕ) → other < key → IsGoodKey entries tag other
 
 -- a call that reads answers `Bad` for a record alone, whose key has this
 abbrev pub IfBadKey : {A : Type 0} → Result A LoadError → (ℕ → Type 0) → Type 0

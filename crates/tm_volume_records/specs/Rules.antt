@@ -3,10 +3,11 @@ use Rattle.std.specs.Prelude.{◌≡◌, ◌⊎◌, ℕ, ◌<◌, ◌≤◌, Som
 use Rattle.std.specs.List.{All}
 use Rattle.tm_image.specs.Reads.{Entry, Entries}
 use Rattle.tm_items.specs.Computed.{items_of}
-use Rattle.tm_items.specs.Rules.{Keeps as KeepsPlace}
+use Rattle.tm_items.specs.Rules.{FollowsRules}
 use Rattle.tm_nodes.specs.declared.volume.VolumeHead.{VolumeHead}
 use Rattle.tm_nodes.specs.Records.{item_of, volume_of, paths_of, rows_of}
 use Rattle.tm_base.specs.Paths.{Names}
+use Rattle.tm_records.specs.Records.{Records, at}
 use Rattle.tm_tree.specs.declared.node.LeafRow.TheVariants as leaf
 use Rattle.tm_tree.specs.declared.record.ItemBody.{ItemBody}
 use Rattle.tm_tree.specs.declared.record.ItemBody.TheVariants as body
@@ -69,6 +70,10 @@ HasData (body.Folder attrs) size = size ≡ 0
 HasData (body.Leaf (leaf.File attrs stamp count)) size = size ≤ most_bytes
 HasData (body.Leaf (leaf.Link attrs stamp target)) size = size ≡ 0
 
+-- no item has more bytes than a file may have
+abbrev pub AreShort : Records → Type 0
+AreShort records = (n : ℕ) → 1 ≤ n → n ≤ most_number → IfSome (at (item_key n) records) (λ r. r.length ≤ most_bytes)
+
 -- the stamp of a file or link was drawn
 abbrev pub HasStamp : ℕ → ItemBody → Type 0
 HasStamp next (body.Folder attrs) = Unit {0}
@@ -85,10 +90,10 @@ pub record IsItem (next : ℕ) (e : Entry) : Type 0 where
 -- the item of a number, by itself and in its place; number 1 is there
 pub record HasItem (entries : Entries) (next n : ℕ) : Type 0 where
   pub item : IfSome (entry_at (item_key n) entries) (IsItem next)
-  pub place : KeepsPlace (items_of (placings_of entries)) n
+  pub place : FollowsRules (items_of (placings_of entries)) n
 
 -- the rules of one key
-pub record Keeps (entries : Entries) (tag : Tag) (key : ℕ) : Type 0 where
+pub record IsGoodKey (entries : Entries) (tag : Tag) (key : ℕ) : Type 0 where
   pub known : IsSome (entry_at key entries) → IsVolumeKey key
   pub head : key ≡ head_key → HasHead entries
   pub journal : key ≡ journal_key → HasJournal entries tag
@@ -96,9 +101,9 @@ pub record Keeps (entries : Entries) (tag : Tag) (key : ℕ) : Type 0 where
 
 -- every key keeps its rules
 abbrev pub IsGoodVolume : Entries → Tag → Type 0
-IsGoodVolume entries tag = (key : ℕ) → Keeps entries tag key
+IsGoodVolume entries tag = (key : ℕ) → IsGoodKey entries tag key
 
 -- the least key that breaks a rule
 pub record IsLeastBad (entries : Entries) (tag : Tag) (key : ℕ) : Type 0 where
-  pub bad : Keeps entries tag key → ⊥
-  pub below : (other : ℕ) → other < key → Keeps entries tag other
+  pub bad : IsGoodKey entries tag key → ⊥
+  pub below : (other : ℕ) → other < key → IsGoodKey entries tag other

@@ -12,13 +12,13 @@ ghost use Rattle.tm_world.specs.Log.{now, Steps};
 ghost use Rattle.tm_world.specs.Outside.{disk};
 ghost use Rattle.tm_volume_records.specs.Loads.{items_from, HeadIn, IfBadKey};
 ghost use Rattle.tm_volume_records.specs.Records.{head_key, entry_at};
-ghost use Rattle.tm_volume_records.specs.Rules.{IsGoodVolume, IsLeastBad};
+ghost use Rattle.tm_volume_records.specs.Rules.{AreShort, IsGoodVolume, IsLeastBad};
 
 use crate::fixed::FixedPaths;
 use crate::head::{bad_record, check_journal, read_fixed, read_head};
 use crate::indexing::{ItemsError, load_items};
+use crate::positions::ABOVE_NUMBERS;
 use crate::record_keys::ITEM_KEY;
-use crate::spots::ABOVE_NUMBERS;
 use std::alloc::Global;
 use tm_image::{Image, LoadError};
 use tm_index::Index;
@@ -73,6 +73,7 @@ pub fn check_records<W: World>(
     requires count { length image.now.used ≡ W.blocks world.old Side.Volume }
     ensures head { IfOk result (λ c. HeadIn image.now.records c.head) }
     ensures items { IfOk result (λ c. (bytes : ℕ → List ℕ) → IsSound (items_from image.now.records bytes) × IsIndex (items_from image.now.records bytes) (numbers_in c.numbers)) }
+    ensures short { OnOk result (AreShort image.now.records) }
     ensures fixed { W.told → IfOk result (λ c. option_map (λ e. paths_of e.bytes) (entry_at head_key (entries_of (disk Side.Volume (now (W.log world.old))).bytes image.now.records)) ≡ Some (Some c.fixed)) }
     ensures good { W.told → (generation : ℕ) → OnOk result (IsGoodVolume (entries_of (disk Side.Volume (now (W.log world.old))).bytes image.now.records) (record { clean = cond clean 1 0; generation = generation; next = next })) }
     ensures bad { W.told → (generation : ℕ) → IfBadKey result (IsLeastBad (entries_of (disk Side.Volume (now (W.log world.old))).bytes image.now.records) (record { clean = cond clean 1 0; generation = generation; next = next })) }
@@ -84,18 +85,9 @@ pub fn check_records<W: World>(
     if let Some(key) = stray(image, 0, 0) {
         return Err(bad_record(key));
     }
-    let head = match read_head(alloc, image) {
-        Ok(head) => head,
-        Err(error) => return Err(error),
-    };
-    let fixed = match read_fixed(alloc, world, image) {
-        Ok(fixed) => fixed,
-        Err(error) => return Err(error),
-    };
-    match check_journal(alloc, world, image, head.capacity, clean, next) {
-        Ok(()) => (),
-        Err(error) => return Err(error),
-    }
+    let head = read_head(alloc, image)?;
+    let fixed = read_fixed(alloc, world, image)?;
+    check_journal(alloc, world, image, head.capacity, clean, next)?;
     if let Some(key) = stray(image, 3, ITEM_KEY) {
         return Err(bad_record(key));
     }

@@ -109,10 +109,7 @@ pub(crate) fn read_fixed<W: World>(
     ensures never_less { NeverLess (W.faults world.old) (W.faults world.new) }
     ensures fault { IsErrOf result LoadError.Fault → Rose (W.faults world.old Part.Volume) (W.faults world.new Part.Volume) }
 {
-    let bytes = match read_data(alloc, world, image, HEAD_KEY) {
-        Ok(bytes) => bytes,
-        Err(error) => return Err(error),
-    };
+    let bytes = read_data(alloc, world, image, HEAD_KEY)?;
     match FixedPaths::read(alloc, &bytes) {
         Ok(fixed) => Ok(fixed),
         Err(NodeError::BadNode(_)) => Err(bad_record(HEAD_KEY)),
@@ -145,10 +142,7 @@ fn check_rows<W: World>(
     ensures never_less { NeverLess (W.faults world.old) (W.faults world.new) }
     ensures fault { IsErrOf result LoadError.Fault → Rose (W.faults world.old Part.Volume) (W.faults world.new Part.Volume) }
 {
-    let bytes = match read_data(alloc, world, image, JOURNAL_KEY) {
-        Ok(bytes) => bytes,
-        Err(error) => return Err(error),
-    };
+    let bytes = read_data(alloc, world, image, JOURNAL_KEY)?;
     let rows = match read_rows(alloc, &bytes) {
         Ok(rows) => rows,
         Err(NodeError::BadNode(_)) => return Err(bad_record(JOURNAL_KEY)),

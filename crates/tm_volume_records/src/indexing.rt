@@ -5,10 +5,10 @@ ghost use Rattle.tm_index.specs.Folders.{numbers_in};
 ghost use Rattle.tm_items.specs.Index.{IsIndex, IsLoaded, SetsAt};
 ghost use Rattle.tm_items.specs.Places.{at_name};
 ghost use Rattle.tm_items.specs.Placings.{Items};
-ghost use Rattle.tm_items.specs.Rules.{climbs, Keeps as KeepsPlace, IsSound};
-ghost use Rattle.tm_volume_records.specs.Loads.{is_folder_spot, is_root_body, is_root_row, items_from, row_in, spot_at, AreSpots, AreSpotsBelow, IsFirstBad, KeepsOwn};
+ghost use Rattle.tm_items.specs.Rules.{climbs, FollowsRules, IsSound};
+ghost use Rattle.tm_volume_records.specs.Loads.{is_folder_position, is_root_body, is_root_row, items_from, row_in, position_at, ArePositions, ArePositionsBelow, IsFirstBad, KeepsOwn};
 
-use crate::spots::{ABOVE_NUMBERS, Spot, read_row, spot_at, survey_items};
+use crate::positions::{ABOVE_NUMBERS, Position, position_at, read_row, survey_items};
 use std::alloc::{AllocError, Global};
 use tm_base::Name;
 use tm_image::Image;
@@ -36,26 +36,26 @@ impl From<AllocError> for ItemsError {
 }
 
 /// Whether a folder stands under a number.
-fn is_folder(spots: &[Option<Spot>], number: u64) -> bool
-    ensures { result ≡ is_folder_spot (spot_at spots.now number) }
+fn is_folder(positions: &[Option<Position>], number: u64) -> bool
+    ensures { result ≡ is_folder_position (position_at positions.now number) }
 {
-    match spot_at(spots, number) {
-        Some(spot) => spot.is_folder,
+    match position_at(positions, number) {
+        Some(position) => position.is_folder,
         None => false,
     }
 }
 
 /// Whether the walk over parents comes to number 1 within 64 steps.
-fn climbs(spots: &[Option<Spot>], number: u64) -> bool
-    ensures { (items : Items) → AreSpots items spots.now → result ≡ climbs 64 items number }
+fn climbs(positions: &[Option<Position>], number: u64) -> bool
+    ensures { (items : Items) → ArePositions items positions.now → result ≡ climbs 64 items number }
 {
     let mut at = number;
     for _step in 0..64u32 {
         if at == 1 {
             return true;
         }
-        match spot_at(spots, at) {
-            Some(spot) => at = spot.parent,
+        match position_at(positions, at) {
+            Some(position) => at = position.parent,
             None => return false,
         }
     }
@@ -90,15 +90,10 @@ fn has_root(alloc: Global, image: &Image) -> Result<bool, AllocError>
     Ok(is_root(&row))
 }
 
-/// The name of the item of a number.
-fn read_name(alloc: Global, image: &Image, number: u64) -> Result<Option<Name>, AllocError>
-    requires { number ≤ 65536 }
-    ensures { IfOk result (λ name. IfSome (row_in image.now.records number) (λ row. name ≡ row.name)) }
+fn copied(name: &Name) -> Result<Name, AllocError>
+    ensures { IfOk result (λ copy. copy ≡ name.now) }
 {
-    match read_row(alloc, image, number)? {
-        Some(row) => Ok(row.name),
-        None => Ok(None),
-    }
+    Ok(name.clone()?)
 }
 
 /// Sets a number at a place of the index, and answers whether none was there.
@@ -116,31 +111,30 @@ fn set_free(numbers: &mut Index, parent: u64, name: Name, number: u64) -> Result
 
 /// Takes one item more into the index, and answers whether it keeps the rules of its place.
 fn place(
-    alloc: Global,
     image: &Image,
-    spots: &[Option<Spot>],
+    positions: &[Option<Position>],
     numbers: &mut Index,
     number: u64,
 ) -> Result<bool, AllocError>
     requires sound { IsSoundImage image.now }
     requires number { (2 ≤ number) × (number ≤ 65536) }
-    requires spots { AreSpotsBelow image.now.records 65537 spots.now }
+    requires positions { ArePositionsBelow image.now.records 65537 positions.now }
     ensures kept { IfOk result (λ good. good ≡ true → (bytes : ℕ → List ℕ) → IsLoaded (items_from image.now.records bytes) number (numbers_in numbers.old)
         → IsLoaded (items_from image.now.records bytes) (number + 1) (numbers_in numbers.new)) }
     ensures broken { IfOk result (λ good. good ≡ false → (bytes : ℕ → List ℕ) → IsLoaded (items_from image.now.records bytes) number (numbers_in numbers.old)
-        → ¬ KeepsPlace (items_from image.now.records bytes) number) }
+        → ¬ FollowsRules (items_from image.now.records bytes) number) }
 {
-    let Some(spot) = spot_at(spots, number) else {
+    let Some(position) = position_at(positions, number) else {
         return Ok(true);
     };
-    if !is_folder(spots, spot.parent) {
+    if !is_folder(positions, position.parent) {
         return Ok(false);
     }
-    if !climbs(spots, number) {
+    if !climbs(positions, number) {
         return Ok(false);
     }
-    match read_name(alloc, image, number)? {
-        Some(name) => set_free(numbers, spot.parent, name, number),
+    match &position.name {
+        Some(name) => set_free(numbers, position.parent, copied(name)?, number),
         None => Ok(false),
     }
 }
@@ -163,7 +157,7 @@ pub(crate) fn load_items(alloc: Global, image: &Image, next: u64) -> Result<Inde
     }
     let mut numbers = Index::new(alloc);
     for number in 2..survey.worst {
-        let good = place(alloc, image, &survey.spots, &mut numbers, number)?;
+        let good = place(image, &survey.positions, &mut numbers, number)?;
         if !good {
             return Err(ItemsError::Bad(number));
         }

@@ -6,8 +6,8 @@ mod check;
 mod fixed;
 mod head;
 mod indexing;
+mod positions;
 mod record_keys;
-mod spots;
 
 pub use check::{Contents, check_records, first_from};
 pub use fixed::FixedPaths;

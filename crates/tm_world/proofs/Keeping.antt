@@ -31,9 +31,9 @@ scripts-put_disk : (side : Side) (d : Disk) (s : Outside) → (put_disk side d s
 unfolding put_disk
 scripts-put_disk side d s = refl
 
-left-put_disk : (side : Side) (d : Disk) (s : Outside) → (put_disk side d s).left ≡ s.left
+unread-put_disk : (side : Side) (d : Disk) (s : Outside) → (put_disk side d s).unread ≡ s.unread
 unfolding put_disk
-left-put_disk side d s = refl
+unread-put_disk side d s = refl
 
 said-put_disk : (side : Side) (d : Disk) (s : Outside) → (put_disk side d s).said ≡ s.said
 unfolding put_disk
@@ -44,7 +44,7 @@ KeepsRest-put_disk side d s = record {
   places = λ any. place-put_disk side any d s;
   elsewhere = λ at ne. elsewhere-put_disk side d s at ne;
   scripts = scripts-put_disk side d s;
-  left = left-put_disk side d s;
+  unread = unread-put_disk side d s;
   said = said-put_disk side d s;
 }
 
@@ -137,7 +137,7 @@ attach_side_keeps Volume path create s = record {
   elsewhere = λ at ne. elsewhere-made path create s at ne;
   other_place = made-keeps (λ (t : Outside). t.store) path create s refl;
   scripts = made-keeps (λ (t : Outside). t.scripts) path create s refl;
-  left = made-keeps (λ (t : Outside). t.left) path create s refl;
+  unread = made-keeps (λ (t : Outside). t.unread) path create s refl;
   said = made-keeps (λ (t : Outside). t.said) path create s refl;
 }
 attach_side_keeps Store path create s = record {
@@ -145,7 +145,7 @@ attach_side_keeps Store path create s = record {
   elsewhere = λ at ne. elsewhere-made path create s at ne;
   other_place = made-keeps (λ (t : Outside). t.volume) path create s refl;
   scripts = made-keeps (λ (t : Outside). t.scripts) path create s refl;
-  left = made-keeps (λ (t : Outside). t.left) path create s refl;
+  unread = made-keeps (λ (t : Outside). t.unread) path create s refl;
   said = made-keeps (λ (t : Outside). t.said) path create s refl;
 }
 
@@ -169,6 +169,6 @@ pub take_keeps : (n : ℕ) (s : Outside) → KeepsImages s (took n s) × ((took 
 unfolding took
 take_keeps n s = (KeepsImages-from s _ refl refl refl refl, refl)
 
-pub say_keeps : (bytes : List ℕ) (s : Outside) → KeepsImages s (spoke bytes s) × ((spoke bytes s).left ≡ s.left)
+pub say_keeps : (bytes : List ℕ) (s : Outside) → KeepsImages s (spoke bytes s) × ((spoke bytes s).unread ≡ s.unread)
 unfolding spoke
 say_keeps bytes s = (KeepsImages-from s _ refl refl refl refl, refl)

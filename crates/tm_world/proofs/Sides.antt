@@ -70,7 +70,7 @@ put_at_twice p d e s = λ i. record {
   scripts = s.scripts;
   volume = s.volume;
   store = s.store;
-  left = s.left;
+  unread = s.unread;
   said = s.said;
 }
 
@@ -80,7 +80,7 @@ put_at_same p s = λ i. record {
   scripts = s.scripts;
   volume = s.volume;
   store = s.store;
-  left = s.left;
+  unread = s.unread;
   said = s.said;
 }
 

@@ -26,7 +26,7 @@ pub record KeepsRest (side : Side) (old new : Outside) : Type 0 where
   pub places : (any : Side) → place any new ≡ place any old
   pub elsewhere : (at : Place) → is_place (place side old) at ≡ false → new.stands at ≡ old.stands at
   pub scripts : new.scripts ≡ old.scripts
-  pub left : new.left ≡ old.left
+  pub unread : new.unread ≡ old.unread
   pub said : new.said ≡ old.said
 
 -- attaching a side: what stands already, what is elsewhere and the other side's place are as they were
@@ -35,7 +35,7 @@ pub record AttachKeeps (side : Side) (path : List ℕ) (old new : Outside) : Typ
   pub elsewhere : (at : Place) → is_place (Some path) at ≡ false → new.stands at ≡ old.stands at
   pub other_place : place (other side) new ≡ place (other side) old
   pub scripts : new.scripts ≡ old.scripts
-  pub left : new.left ≡ old.left
+  pub unread : new.unread ≡ old.unread
   pub said : new.said ≡ old.said
 
 -- a call on one side leaves all else at each moment
@@ -80,4 +80,4 @@ abbrev pub TakeKeeps : Type 0
 TakeKeeps = (n : ℕ) (s : Outside) → KeepsImages s (took n s) × ((took n s).said ≡ s.said)
 
 abbrev pub SayKeeps : Type 0
-SayKeeps = (bytes : List ℕ) (s : Outside) → KeepsImages s (spoke bytes s) × ((spoke bytes s).left ≡ s.left)
+SayKeeps = (bytes : List ℕ) (s : Outside) → KeepsImages s (spoke bytes s) × ((spoke bytes s).unread ≡ s.unread)

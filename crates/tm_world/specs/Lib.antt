@@ -3,6 +3,7 @@ pub mod Outside
 pub mod Log
 pub mod Runs
 pub mod Faults
+pub mod Counts
 pub mod Pairs
 pub mod Alone
 pub mod Torn

@@ -22,7 +22,7 @@ pub record Outside : Type 0 where
   pub scripts : List ℕ → Option (List ℕ)
   pub volume : Place
   pub store : Place
-  pub left : List ℕ
+  pub unread : List ℕ
   pub said : List ℕ
 
 abbrev pub place : Side → Outside → Place
@@ -39,7 +39,7 @@ put_at p d s = record {
   scripts = s.scripts;
   volume = s.volume;
   store = s.store;
-  left = s.left;
+  unread = s.unread;
   said = s.said;
 }
 
@@ -48,10 +48,10 @@ unfoldable pub put_disk : Side → Disk → Outside → Outside
 put_disk side d s = put_at (place side s) d s
 
 unfoldable pub took : ℕ → Outside → Outside
-took n s = record { stands = s.stands; scripts = s.scripts; volume = s.volume; store = s.store; left = drop n s.left; said = s.said }
+took n s = record { stands = s.stands; scripts = s.scripts; volume = s.volume; store = s.store; unread = drop n s.unread; said = s.said }
 
 unfoldable pub spoke : List ℕ → Outside → Outside
-spoke bytes s = record { stands = s.stands; scripts = s.scripts; volume = s.volume; store = s.store; left = s.left; said = s.said ++ bytes }
+spoke bytes s = record { stands = s.stands; scripts = s.scripts; volume = s.volume; store = s.store; unread = s.unread; said = s.said ++ bytes }
 
 -- the two sides are attached at different paths
 abbrev pub AreApart : Outside → Type 0
@@ -70,13 +70,13 @@ abbrev pub with_made : List ℕ → Option ℕ → Outside → Outside
 with_made path create s = if (s.stands (Some path)).there then s else put_at (Some path) (made create) s
 
 abbrev pub with_place : Side → Place → Outside → Outside
-with_place Volume p s = record { stands = s.stands; scripts = s.scripts; volume = p; store = s.store; left = s.left; said = s.said }
-with_place Store p s = record { stands = s.stands; scripts = s.scripts; volume = s.volume; store = p; left = s.left; said = s.said }
+with_place Volume p s = record { stands = s.stands; scripts = s.scripts; volume = p; store = s.store; unread = s.unread; said = s.said }
+with_place Store p s = record { stands = s.stands; scripts = s.scripts; volume = s.volume; store = p; unread = s.unread; said = s.said }
 
 unfoldable pub attached : Part → List ℕ → Option ℕ → Outside → Outside
 attached VolumePart path create s = with_place Volume (Some path) (with_made path create s)
 attached StorePart path create s = with_place Store (Some path) (with_made path create s)
-attached Script path create s = record { stands = s.stands; scripts = s.scripts; volume = s.volume; store = s.store; left = unwrap_or (s.scripts path) []; said = s.said }
+attached Script path create s = record { stands = s.stands; scripts = s.scripts; volume = s.volume; store = s.store; unread = unwrap_or (s.scripts path) []; said = s.said }
 attached Out path create s = s
 
 -- what `attach` answers

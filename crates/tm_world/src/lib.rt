@@ -7,11 +7,13 @@
 
 mod bytes;
 mod cause;
+mod faults;
 mod laws;
 mod world;
 
 pub use bytes::{Blob, Blocks, Bytes};
 pub use cause::Cause;
+pub use faults::Faults;
 pub use laws::{
     DiskFact, attach_script_keeps, attach_side_keeps, can_be_met, other_side_stays, read_runs,
     reads_are_left, rest_stays, say_keeps, sides_compose, sync_runs, synced_stays, take_keeps,

@@ -28,6 +28,7 @@ pub struct Failed;
 pub trait World {
     ghost use Rattle.std.specs.Prelude.{◌≡◌, ◌≢◌, ◌<◌, ◌≤◌, ◌↔◌, [], ℕ, length, take, IsSome, IfOk, OnOk, OnErr};
     ghost use Rattle.std.specs.Option.{ForSome};
+    ghost use Rattle.tm_base.specs.Limits.{max_blocks};
     ghost use Rattle.tm_world.specs.declared.world.Side.{Side};
     ghost use Rattle.tm_world.specs.declared.world.Part.{Part};
     ghost use Rattle.tm_world.specs.Disk.{synced};
@@ -53,12 +54,12 @@ pub trait World {
     /// The script is read from its front afterwards; where none stands there, the call fails.
     fn attach(&mut self, part: Part, path: &str, create: Option<u32>) -> Result<u32, Failed>
         requires part { part ≢ Part.Out }
-        requires create { ForSome create (λ n. (1 ≤ n) × (n ≤ 262144)) }
+        requires create { ForSome create (λ n. (1 ≤ n) × (n ≤ max_blocks)) }
         ensures ok { told → OnOk result (Steps (log self.old) (log self.new) (attached part path.now create (now (log self.old)))) }
         ensures err { told → OnErr result (Steps (log self.old) (log self.new) (now (log self.old))) }
         ensures count { told → IfOk result (λ n. n ≡ attached_count part (now (log self.new))) }
         ensures script { told → part ≡ Part.Script → OnOk result (IsSome ((now (log self.old)).scripts path.now)) }
-        ensures most { IfOk result (λ n. n ≤ 262144) }
+        ensures most { IfOk result (λ n. n ≤ max_blocks) }
         ensures blocks { (side : Side) → part_of side ≡ part → IfOk result (λ n. blocks self.new side ≡ n) }
         ensures other { (side : Side) → part_of side ≢ part → blocks self.new side ≡ blocks self.old side }
         ensures never_less { NeverLess (faults self.old) (faults self.new) }
@@ -96,9 +97,9 @@ pub trait World {
         requires { 0 < length into.old }
         ensures within { IfOk result (λ n. n ≤ length into.new) }
         ensures steps { told → IfOk result (λ n. Steps (log self.old) (log self.new) (took n (now (log self.old)))) }
-        ensures bytes { told → IfOk result (λ n. take n into.new ≡ take n (now (log self.old)).left) }
-        ensures fits { told → IfOk result (λ n. n ≤ length (now (log self.old)).left) }
-        ensures end { told → IfOk result (λ n. (n ≡ 0) ↔ ((now (log self.old)).left ≡ [])) }
+        ensures bytes { told → IfOk result (λ n. take n into.new ≡ take n (now (log self.old)).unread) }
+        ensures fits { told → IfOk result (λ n. n ≤ length (now (log self.old)).unread) }
+        ensures end { told → IfOk result (λ n. (n ≡ 0) ↔ ((now (log self.old)).unread ≡ [])) }
         ensures err { told → OnErr result (Steps (log self.old) (log self.new) (now (log self.old))) }
         ensures blocks { blocks self.new ≡ blocks self.old }
         ensures never_less { NeverLess (faults self.old) (faults self.new) }
@@ -115,5 +116,5 @@ pub trait World {
     ghost counts: { told → (w : Self) (side : Side) → (disk side (now (log w))).count ≡ blocks w side };
 
     /// An image that is told has at most 262,144 blocks.
-    ghost small: { told → (w : Self) (place : Place) → ((now (log w)).stands place).count ≤ 262144 };
+    ghost small: { told → (w : Self) (place : Place) → ((now (log w)).stands place).count ≤ max_blocks };
 }

@@ -2,12 +2,12 @@
 ghost use Rattle.std.specs.Prelude.{◌≡◌, ◌<◌, OnOk};
 ghost use Rattle.tm_fileworld.specs.World.{blocks_of};
 
-use super::{Faults, FileWorld, part};
+use super::{FileWorld, part};
 use std::fs;
 use std::process::Abort;
 use std::rt::Files;
 use std::test::Fail;
-use tm_world::{Failed, Part, Side, World};
+use tm_world::{Failed, Faults, Part, Side, World};
 
 const IMAGES: &str = "tm_fileworld_images";
 

@@ -2,6 +2,7 @@
 ghost use Rattle.std.specs.Prelude.{◌≡◌, ◌+◌, ◌<◌, ◌≤◌, ◌↔◌, ◌++◌, ◌∷◌, [], ℕ, length, vec_len, vec_capacity, Some, None, Option, IsTrue, IsSome, IsNone, IfSome, IfNone, OnSome};
 ghost use Rattle.std.specs.Bool.{OnTrue, OnFalse};
 ghost use Rattle.std.specs.Option.{ForSome};
+ghost use Rattle.tm_base.specs.Limits.{max_blocks};
 ghost use Rattle.tm_world.specs.Disk.{zeros};
 ghost use Rattle.tm_world.specs.Outside.{disk, put_at, with_place, attached, part_of};
 ghost use Rattle.tm_world.specs.Log.{Steps};
@@ -49,7 +50,7 @@ impl Devices {
         ensures steps { OnSome result (Steps (log_of self.old) (log_of self.new) (attached (part_of side) path.now create (outside self.old))) }
         ensures stays { IfNone result (Steps (log_of self.old) (log_of self.new) (outside self.old)) }
         ensures count { IfSome result (λ n. n ≡ (disk side (outside self.new)).count) }
-        ensures most { IfSome result (λ n. n ≤ 262144) }
+        ensures most { IfSome result (λ n. n ≤ max_blocks) }
         ensures other { OnSome result ((disk (other side) (outside self.new)).count ≡ (disk (other side) (outside self.old)).count) }
         ensures places { places_of self.new ≡ places_of self.old }
         ensures room { self.new.room ≡ spent 0 0 self.old.room }
@@ -122,7 +123,7 @@ impl Devices {
         requires first { IsFirst self.old.sites.items i }
         requires none { (site_at self.old.sites.items i).count ≡ None }
         requires fits { count ≤ length (site_at self.old.sites.items i).blocks }
-        requires most { count ≤ 262144 }
+        requires most { count ≤ max_blocks }
         requires calls { 0 < self.old.room.calls }
         ensures steps { let path = Some (path_at self.old.sites.items i) in Steps (log_of self.old) (log_of self.new) (with_place side path (put_at path (zeros count) (outside self.old))) }
         ensures places { places_of self.new ≡ places_of self.old }

@@ -113,8 +113,8 @@ impl Devices {
     /// Moves the next bytes of the script into the front of a slice, and answers how many.
     pub fn take(&mut self, into: &mut [u8]) -> usize
         requires { 0 < self.old.room.calls }
-        ensures count { result ≡ min (length into.old) (length (outside self.old).left) }
-        ensures bytes { into.new ≡ take result (outside self.old).left ++ drop result into.old }
+        ensures count { result ≡ min (length into.old) (length (outside self.old).unread) }
+        ensures bytes { into.new ≡ take result (outside self.old).unread ++ drop result into.old }
         ensures steps { Steps (log_of self.old) (log_of self.new) (took result (outside self.old)) }
         ensures places { places_of self.new ≡ places_of self.old }
         ensures room { self.new.room ≡ spent 0 0 self.old.room }

@@ -1,5 +1,6 @@
 //! What a test does to the devices.
 ghost use Rattle.std.specs.Prelude.{◌≡◌, ◌≤◌, length, Some, OnOk, OnErr};
+ghost use Rattle.tm_base.specs.Limits.{max_blocks};
 ghost use Rattle.tm_world.specs.Disk.{zeros};
 ghost use Rattle.tm_world.specs.Outside.{put_at};
 ghost use Rattle.tm_memworld.specs.Torn.{stopped};
@@ -27,7 +28,7 @@ fn tear_all(sites: &mut [Site], torn: &[u8; 4096], time: usize)
 impl Devices {
     /// An image of zeros stands at a path.
     pub fn put_image(&mut self, path: &[u8], blocks: u32) -> Result<(), AllocError>
-        requires { blocks ≤ 262144 }
+        requires { blocks ≤ max_blocks }
         ensures ok { OnOk result (outside self.new ≡ put_at (Some path.now) (zeros blocks) (outside self.old)) }
         ensures err { OnErr result (outside self.new ≡ outside self.old) }
         ensures places_ok { OnOk result (places_of self.new ≡ with_room path.now blocks (places_of self.old)) }
@@ -41,7 +42,7 @@ impl Devices {
 
     /// There is memory for an image of so many blocks at a path, where nothing stands.
     pub fn put_place(&mut self, path: &[u8], blocks: u32) -> Result<(), AllocError>
-        requires { blocks ≤ 262144 }
+        requires { blocks ≤ max_blocks }
         ensures outside { outside self.new ≡ outside self.old }
         ensures places_ok { OnOk result (places_of self.new ≡ placed path.now blocks (places_of self.old) (outside self.old)) }
         ensures places_err { OnErr result (places_of self.new ≡ places_of self.old) }
@@ -90,7 +91,7 @@ impl Devices {
 
     // A site takes the place of the one of its path.
     fn put_site(&mut self, site: Site) -> Result<(), AllocError>
-        requires small { count_at site ≤ 262144 }
+        requires small { count_at site ≤ max_blocks }
         requires new { IsBy 0 site }
         ensures ok { OnOk result (outside self.new ≡ put_at (Some site.path) (disk_of site) (outside self.old)) }
         ensures err { OnErr result (outside self.new ≡ outside self.old) }

@@ -4,7 +4,7 @@ use Rattle.tm_tree.specs.declared.node.NodeId.{NodeId}
 use Rattle.tm_tree.specs.Trees.{folder_at}
 use Rattle.tm_tree.proofs.ViewsKept.{view_kept}
 use Rattle.tm_tree.specs.declared.rows.Mark.{Mark}
-use Rattle.tm_store_records.specs.Built.{IsBuilt, completed}
+use Rattle.tm_store_records.specs.Built.{IsBuilt, store_completed}
 use Rattle.tm_store_records.specs.Held.{Held, files_of, store_on}
 use Rattle.tm_backup.proofs.Copying.{copied}
 use Rattle.tm_volume.specs.Seen.{tree_on}
@@ -13,8 +13,8 @@ use Rattle.tm_backup.specs.Taking.{base_root, view_on}
 use Rattle.tm_backup.proofs.Rooted.{suits_root, staging_root, walked_counted}
 use Rattle.tm_graph.specs.declared.built.Built.{Built}
 use Rattle.tm_graph.specs.Nodes.{greatest}
-use Rattle.tm_build.specs.Building.{prev}
-use Rattle.tm_build.specs.Making.{begun}
+use Rattle.tm_copy.specs.Building.{prev}
+use Rattle.tm_copy.specs.Making.{begun}
 use Rattle.tm_backup.specs.Growing.{blocks_in}
 use Rattle.tm_backup.specs.Taking.{backup_of}
 use Rattle.tm_backup.proofs.Few.{few_new, taken_few}
@@ -101,8 +101,8 @@ returns-clause-copied g c = λ told fit date.
     let went = c.in_ok-root.ensures.went in
     let tree = view_kept v.fixed (tree_on v bytes) (c.items_keep_bounds.ensures.tree v bytes c.requires.may.kept) in
     let state : store_on after stored ≡ store_on s start = sym (ap (λ (h : Held). store_on h stored) went.same) ∙ went.state told in
-    ap (λ (h : Held). completed h c.finish.result date v.head.name v.head.id mark stored) went.same
-    ∙ ap (λ (built : Built). completed after built date v.head.name v.head.id mark stored) (finished g c)
+    ap (λ (h : Held). store_completed h c.finish.result date v.head.name v.head.id mark stored) went.same
+    ∙ ap (λ (built : Built). store_completed after built date v.head.name v.head.id mark stored) (finished g c)
     ∙ copied g.W.World.told told s v bytes start stored new.image new.staged c.in_ok-root.root m new.staged (made g c (files_of new.image.records stored)) c.finish.ensures.making c.requires.may.graph tree state fit date
 
 pub returns-clause-walked : goal.returns-clause-walked

@@ -5,7 +5,7 @@ use Rattle.tm_graph.specs.Nodes.{Nodes}
 use Rattle.tm_tree.specs.Trees.{IsTree}
 use Rattle.tm_tree.proofs.ViewsKept.{view_kept}
 use Rattle.tm_volume.specs.Seen.{tree_on}
-use Rattle.tm_build.specs.Keeping.{kept_file}
+use Rattle.tm_copy.specs.Keeping.{kept_file}
 use Rattle.tm_backup.specs.Steps.{store_bytes}
 use Rattle.tm_backup.specs.Taking.{view_on}
 use Rattle.tm_backup.proofs.Planning.{file_of, kept_blocks, kept_plan, new_blocks, new_plan}

@@ -8,13 +8,13 @@ use Rattle.tm_tree.specs.Copies.{bare}
 use Rattle.tm_tree.specs.Trees.{IsTree, item_at}
 use Rattle.tm_tree.proofs.ViewsKept.{view_kept}
 use Rattle.tm_volume.specs.Seen.{tree_on}
-use Rattle.tm_build.specs.Driving.{base_child}
-use Rattle.tm_build.specs.Listed.{StandsAs}
+use Rattle.tm_copy.specs.Driving.{base_child}
+use Rattle.tm_copy.specs.Listed.{StandsAs}
 use Rattle.tm_backup.specs.Growing.{Suits}
 use Rattle.tm_backup.specs.Steps.{store_bytes}
 use Rattle.tm_backup.specs.Taking.{view_on, prev_on, backup_of}
-use Rattle.tm_backup.specs.declared.stage.Plan.{Plan}
-use Rattle.tm_backup.specs.Plans.{IsPlanFor, row_blocks, kind_blocks}
+use Rattle.tm_backup.specs.declared.stage.EntryPlan.{EntryPlan}
+use Rattle.tm_backup.specs.EntryPlans.{IsPlanFor, row_blocks, kind_blocks}
 use Rattle.tm_backup.proofs.Planning.{entry_suits, folder_plan, link_plan}
 use Rattle.tm_backup.proofs.Staging.{stages_err, stages_ok}
 use Rattle.tm_backup.proofs.Stepping.{ran_none}
@@ -89,7 +89,7 @@ returns-in_err-plan-in-File-clause-stages g c = λ root files bytes suits.
     let q = err_from_is_err_and c.from_residual-in_err-plan-in-File.result c.from_residual-in_err-plan-in-File.ensures.1 in
     let blocks : row_blocks (prev_on s files root) p c.args.row ≡ kind_blocks (item_at (bare (prev_on s files root)) c.in_ok-place-in-File.place) file =
     (λ j. kind_blocks (item_at (bare (prev_on s files root)) (sym place j)) (c.in-File.is j)) in
-    stages_err Plan _ _ _ _ _ c.from_residual-in_err-plan-in-File.result c.in_err-plan-in-File.field-0.0 (q.1 ∙ ap Err q.2) blocks
+    stages_err EntryPlan _ _ _ _ _ c.from_residual-in_err-plan-in-File.result c.in_err-plan-in-File.field-0.0 (q.1 ∙ ap Err q.2) blocks
     (c.in_err-plan-in-File.ensures.stages root files bytes (subst (λ (x : Names). Suits told s l x c.base_child-base.result root bytes) (sym place) here))
 
 pub returns-in_ok-plan-in-File-clause-stages : goal.returns-in_ok-plan-in-File-clause-stages
@@ -108,7 +108,7 @@ returns-in_ok-plan-in-File-clause-stages g c = λ root files bytes suits.
     let place = c.in_ok-place-in-File.ensures.path in
     let blocks : row_blocks (prev_on s files root) p c.args.row ≡ kind_blocks (item_at (bare (prev_on s files root)) c.in_ok-place-in-File.place) file =
     (λ j. kind_blocks (item_at (bare (prev_on s files root)) (sym place j)) (c.in-File.is j)) in
-    stages_ok {A = Plan} _ _ _ _ _ c.in_ok-plan-in-File.plan blocks
+    stages_ok {A = EntryPlan} _ _ _ _ _ c.in_ok-plan-in-File.plan blocks
     (c.in_ok-plan-in-File.ensures.stages root files bytes (subst (λ (x : Names). Suits told s l x c.base_child-base.result root bytes) (sym place) here))
 
 pub returns-in_ok-plan-in-File-clause-planned : goal.returns-in_ok-plan-in-File-clause-planned

@@ -11,10 +11,10 @@ use Rattle.tm_tree.specs.declared.listing.ListRow.{ListRow}
 use Rattle.tm_tree.specs.Trees.{IsTree}
 use Rattle.tm_tree.proofs.ViewsKept.{view_kept}
 use Rattle.tm_volume.specs.Seen.{tree_on}
-use Rattle.tm_build.specs.Listed.{StandsAs}
-use Rattle.tm_build.proofs.Naming.{rows_stand_in}
-use Rattle.tm_backup.specs.declared.stage.Planned.{Planned}
-use Rattle.tm_backup.specs.Plans.{row_blocks}
+use Rattle.tm_copy.specs.Listed.{StandsAs}
+use Rattle.tm_copy.proofs.Naming.{rows_stand_in}
+use Rattle.tm_backup.specs.declared.stage.PlannedEntry.{PlannedEntry}
+use Rattle.tm_backup.specs.EntryPlans.{row_blocks}
 use Rattle.tm_backup.specs.Steps.{MayGo, Went}
 use Rattle.tm_backup.specs.Taking.{view_on, prev_on}
 use Rattle.tm_backup.proofs.Folding.{SoFar, so_far_start, so_far_next, stages_stop, no_items, table_of, staging_rows}
@@ -36,7 +36,7 @@ loop-row-init g c =
     let start : SoFar told v s s l l p c.args.base rows rows [] = so_far_start told v s l _ _ c.requires.may p c.args.base rows shown in
     record {
       far = subst (λ (xs : List ListRow). SoFar told v s s l l p c.args.base rows xs c.new-planned.result.items) (sym c.into_iter-row-iterator.ensures.into_iter_gives.0)
-          (subst (λ (ys : List Planned). SoFar told v s s l l p c.args.base rows rows ys) (sym c.new-planned.ensures.items) start);
+          (subst (λ (ys : List PlannedEntry). SoFar told v s s l l p c.args.base rows rows ys) (sym c.new-planned.ensures.items) start);
       count = omega (arith, c.into_iter-row-iterator.ensures.into_iter_gives.1, ap length c.into_iter-row-iterator.ensures.into_iter_gives.0, c.args.rows.ok.0);
       blocks = refl;
       never_less = λ part. omega arith;
@@ -67,7 +67,7 @@ pub returns-in_err-plan_row-clause-went : goal.returns-in_err-plan_row-clause-we
 returns-in_err-plan_row-clause-went g c =
     let far = c.loop-row.invariant.far in
     let q = err_from_is_err_and c.from_residual.result c.from_residual.ensures.1 in
-    unless_err Planned c.from_residual.result c.in_err-plan_row.field-0.0 _ _ (q.1 ∙ ap Err q.2)
+    unless_err PlannedEntry c.from_residual.result c.in_err-plan_row.field-0.0 _ _ (q.1 ∙ ap Err q.2)
     (went_then g.W.World.told c.args.volume.now c.args.volume.now c.args.store.now c.loop-row.store (g.W.World.log c.args.world.now) (g.W.World.log c.loop-row.world) _ _ c.requires.may far.ran far.went
     c.plan_row.new.store (g.W.World.log c.plan_row.new.world)) c.in_err-plan_row.ensures.went
 
@@ -79,7 +79,6 @@ returns-in_err-plan_row-clause-stages g c =
     let u = c.plan_row.new.store in
     let l = g.W.World.log c.args.world.now in
     let m = g.W.World.log c.loop-row.world in
-    let n = g.W.World.log c.plan_row.new.world in
     let p = c.args.path.now in
     let base = c.args.base in
     let rows = c.args.rows.items in
@@ -116,7 +115,7 @@ loop-row-preserved g c =
     let e = c.in_ok-plan_row.ensures in
     let next = so_far_next told v s l _ _ may p base rows t m c.in-Some.row left planned far u n c.in_ok-plan_row.field-0 e.ran e.went e.stages e.planned e.head e.enter e.owed in
     record {
-      far = subst (λ (xs : List Planned). SoFar told v s u l n p base rows left xs) (sym c.in_ok-push.ensures.items) next;
+      far = subst (λ (xs : List PlannedEntry). SoFar told v s u l n p base rows left xs) (sym c.in_ok-push.ensures.items) next;
       count = omega (arith, c.loop-row.invariant.count, c.in-Some.ensures.steps.1, ap length c.in-Some.ensures.steps.0);
       blocks = e.blocks ∙ c.loop-row.invariant.blocks;
       never_less = λ part. omega (arith, e.never_less part, c.loop-row.invariant.never_less part);
@@ -173,4 +172,4 @@ returns-clause-stages g c = λ root files bytes suits.
     let on : Onward (table_of s) (free_of s.image) (free_of t.image) (flat_map (row_blocks prev p) rows) [] = subst (λ (xs : List ListRow). Onward (table_of s) (free_of s.image) (free_of t.image) (flat_map (row_blocks prev p) rows) (flat_map (row_blocks prev p) xs)) none (far.stages root files bytes suits) in
     let tree : IsTree (view_on v bytes) = view_kept v.fixed (tree_on v bytes) (c.items_keep_bounds.ensures.tree v bytes c.requires.may.kept) in
     let blocks = staging_rows prev (view_on v bytes) p tree ∙ ap (flat_map (row_blocks prev p)) (c.requires.rows bytes) in
-    stages_ok {A = List Planned} (table_of s) (free_of s.image) (free_of t.image) _ _ [] blocks (onward_end {A = List Planned} (table_of s) (free_of s.image) (free_of t.image) (flat_map (row_blocks prev p) rows) [] on)
+    stages_ok {A = List PlannedEntry} (table_of s) (free_of s.image) (free_of t.image) _ _ [] blocks (onward_end {A = List PlannedEntry} (table_of s) (free_of s.image) (free_of t.image) (flat_map (row_blocks prev p) rows) [] on)

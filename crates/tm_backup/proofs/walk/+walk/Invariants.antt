@@ -10,8 +10,8 @@ decreases-walk_entries g l = 3 * (65 - length l.path.now) + 1
 abbrev pub decreases-walk_folder : goal.decreases-walk_folder
 decreases-walk_folder g l = 3 * (65 - length l.path.now) + 2
 
-abbrev pub decreases-walk_plan : goal.decreases-walk_plan
-decreases-walk_plan g l = 3 * (65 - length l.path.now)
+abbrev pub decreases-walk_entry : goal.decreases-walk_entry
+decreases-walk_entry g l = 3 * (65 - length l.path.now)
 
 abbrev pub invariant-walk_entries-loop-entry : goal.invariant-walk_entries-loop-entry
 invariant-walk_entries-loop-entry g l = record {

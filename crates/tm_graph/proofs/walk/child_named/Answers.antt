@@ -2,7 +2,7 @@ use Rattle.std.proofs.Common.{rules, sym}
 use Rattle.std.proofs.lemmas.Fn.{always_returns_same}
 use Rattle.tm_base.specs.Paths.{name_cmp}
 use Rattle.tm_tree.specs.declared.node.Child.{Child}
-use Rattle.tm_graph.proofs.Named.{child_found, child_between, searchable}
+use Rattle.tm_graph.proofs.ChildLemmas.{child_found, child_between, searchable}
 use Rattle.tm_graph.proofs.walk.child_named.Goals as goal
 
 pub returns-in-Ok : goal.returns-in-Ok

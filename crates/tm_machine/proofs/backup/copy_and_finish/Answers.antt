@@ -3,11 +3,11 @@ use Rattle.std.proofs.lemmas.Result.{err_from_is_err_and}
 use Rattle.tm_backup.specs.declared.Copied.{Copied}
 use Rattle.tm_base.specs.declared.refused.LineFault.{LineFault}
 use Rattle.tm_image.specs.Room.{free_of}
-use Rattle.tm_store_records.specs.Built.{completed}
+use Rattle.tm_store_records.specs.Built.{store_completed}
 use Rattle.tm_reply.specs.declared.row.ReplyRow.{ReplyRow}
 use Rattle.tm_reply.specs.declared.row.ReplyRow.TheVariants.{Finished}
 use Rattle.tm_world.proofs.Going.{Runs-then}
-use Rattle.tm_store_records.specs.Held.{Held, store_on, stored_on}
+use Rattle.tm_store_records.specs.Held.{Held, store_on, store_stored_on}
 use Rattle.tm_tree.specs.declared.rows.Mark.{Mark}
 use Rattle.tm_volume.specs.Seen.{Seen as VolumeSeen, stored_on as volume_stored_on}
 use Rattle.tm_tree.specs.States.{StoreState, backed_up}
@@ -41,7 +41,7 @@ returns-in_err-built-clause-does g c told =
       may = may_be_plain (store_on c.args.store.now b) v.volume c.args.date;
       moments = copy_moments k c.args.store.now b v c.args.date plain c.requires.whole (c.held_sizes.ensures c.args.store.now b c.requires.whole) c.requires.count c.requires.running c.requires.unstaged
           _ start end (c.in_err-built.ensures.ran.runs told);
-      answers = subst (λ (r : Result (List ReplyRow) LineFault). AnswersCopy plain k (store_on c.args.store.now b) v c.args.date (stored_on c.copy_volume.new.store (disk StoreSide (now end)).bytes) r) (sym (q.1 ∙ ap Err q.2))
+      answers = subst (λ (r : Result (List ReplyRow) LineFault). AnswersCopy plain k (store_on c.args.store.now b) v c.args.date (store_stored_on c.copy_volume.new.store (disk StoreSide (now end)).bytes) r) (sym (q.1 ∙ ap Err q.2))
           (copy_answers k c.args.store.now b v c.args.date plain
           c.requires.whole (c.held_sizes.ensures c.args.store.now b c.requires.whole) c.requires.count c.requires.running c.requires.unstaged
           Copied g.W.World.told told c.copy_volume.new.store (free_of c.copy_volume.new.store.image) start end refl c.in_err-built.field-0.0 (c.in_err-built.ensures.stages told) c.in_err-built.ensures.went);
@@ -60,7 +60,7 @@ returns-in_err-push-clause-does g c told =
       may = may_be_plain (store_on c.args.store.now b) v.volume c.args.date;
       moments = copy_moments k c.args.store.now b v c.args.date plain c.requires.whole (c.held_sizes.ensures c.args.store.now b c.requires.whole) c.requires.count c.requires.running c.requires.unstaged
           _ start end (c.in_ok-built.ensures.ran.runs told);
-      answers = subst (λ (r : Result (List ReplyRow) LineFault). AnswersCopy plain k (store_on c.args.store.now b) v c.args.date (stored_on c.copy_volume.new.store (disk StoreSide (now end)).bytes) r) (sym (q.1 ∙ ap Err q.2)) tt;
+      answers = subst (λ (r : Result (List ReplyRow) LineFault). AnswersCopy plain k (store_on c.args.store.now b) v c.args.date (store_stored_on c.copy_volume.new.store (disk StoreSide (now end)).bytes) r) (sym (q.1 ∙ ap Err q.2)) tt;
     }
 
 pub returns-in_err-complete-clause-does : goal.returns-in_err-complete-clause-does
@@ -80,7 +80,7 @@ returns-in_err-complete-clause-does g c told =
     let built = c.in_ok-built.field-0.built in
     let fin : StoreState = finished_as h built c.args.date v.volume bytes in
     let sizes = c.completed_is_sized.ensures h built c.args.date c.name.result.now c.info-info.result.id mark bytes went.whole c.in_ok-built.ensures.built (omega (arith, c.in_ok-built.ensures.few)) in
-    let is : completed h built c.args.date c.name.result.now c.info-info.result.id mark bytes ≡ fin = (λ i. completed h built c.args.date ((c.name.ensures ∙ ap (λ (x : VolumeSeen). x.head.name) volume) i) ((c.info-info.ensures.head.0 ∙ ap (λ (x : VolumeSeen). x.head.id) volume) i)
+    let is : store_completed h built c.args.date c.name.result.now c.info-info.result.id mark bytes ≡ fin = (λ i. store_completed h built c.args.date ((c.name.ensures ∙ ap (λ (x : VolumeSeen). x.head.name) volume) i) ((c.info-info.ensures.head.0 ∙ ap (λ (x : VolumeSeen). x.head.id) volume) i)
     (record { generation = (c.info-info.ensures.tag.0 ∙ ap (λ (x : VolumeSeen). x.tag.generation) volume) i; cursor = (c.info-info.ensures.tag.1 ∙ ap (λ (x : VolumeSeen). x.tag.next) volume) i - 1 }) bytes) in
     let q = err_from_is_err_and c.from_residual-in_err-complete.result c.from_residual-in_err-complete.ensures.1 in
     record {
@@ -90,7 +90,7 @@ returns-in_err-complete-clause-does g c told =
           c.requires.whole (c.held_sizes.ensures c.args.store.now b c.requires.whole) c.requires.count c.requires.running c.requires.unstaged
           h built c.name.result.now c.info-info.result.id mark bytes went.same (went.state told) stages.0 stages.1 sizes is
           start mid end (c.in_ok-built.ensures.ran.runs told) (at_date _ _ c.args.date running (c.in_err-complete.ensures.any_moment told));
-      answers = subst (λ (r : Result (List ReplyRow) LineFault). AnswersCopy fin k (store_on c.args.store.now b) v c.args.date (stored_on c.complete.new.self (disk StoreSide (now end)).bytes) r) (sym (q.1 ∙ ap Err q.2))
+      answers = subst (λ (r : Result (List ReplyRow) LineFault). AnswersCopy fin k (store_on c.args.store.now b) v c.args.date (store_stored_on c.complete.new.self (disk StoreSide (now end)).bytes) r) (sym (q.1 ∙ ap Err q.2))
           (refused_answers k c.args.store.now b v c.args.date fin
           c.requires.whole (c.held_sizes.ensures c.args.store.now b c.requires.whole) c.requires.count c.requires.running c.requires.unstaged
           h built c.name.result.now c.info-info.result.id mark bytes went.same (went.state told) stages.0 stages.1 sizes is
@@ -116,7 +116,7 @@ returns-clause-does g c told =
     let built = c.in_ok-built.field-0.built in
     let fin : StoreState = finished_as h built c.args.date v.volume bytes in
     let sizes = c.completed_is_sized.ensures h built c.args.date c.name.result.now c.info-info.result.id mark bytes went.whole c.in_ok-built.ensures.built (omega (arith, c.in_ok-built.ensures.few)) in
-    let is : completed h built c.args.date c.name.result.now c.info-info.result.id mark bytes ≡ fin = (λ i. completed h built c.args.date ((c.name.ensures ∙ ap (λ (x : VolumeSeen). x.head.name) volume) i) ((c.info-info.ensures.head.0 ∙ ap (λ (x : VolumeSeen). x.head.id) volume) i)
+    let is : store_completed h built c.args.date c.name.result.now c.info-info.result.id mark bytes ≡ fin = (λ i. store_completed h built c.args.date ((c.name.ensures ∙ ap (λ (x : VolumeSeen). x.head.name) volume) i) ((c.info-info.ensures.head.0 ∙ ap (λ (x : VolumeSeen). x.head.id) volume) i)
     (record { generation = (c.info-info.ensures.tag.0 ∙ ap (λ (x : VolumeSeen). x.tag.generation) volume) i; cursor = (c.info-info.ensures.tag.1 ∙ ap (λ (x : VolumeSeen). x.tag.next) volume) i - 1 }) bytes) in
     record {
       finished = fin;

@@ -1,5 +1,5 @@
 use Rattle.std.proofs.Common.{ℕ, Ok, Err, ap, subst}
-use Rattle.tm_store_records.specs.Held.{store_on, stored_on}
+use Rattle.tm_store_records.specs.Held.{store_on, store_stored_on}
 use Rattle.tm_tree.specs.States.{backed_up}
 use Rattle.tm_volume.specs.Seen.{stored_on as volume_stored_on}
 use Rattle.tm_world.specs.Log.{now}
@@ -54,7 +54,7 @@ pub returns-in-Err-clause-does : goal.returns-in-Err-clause-does
 returns-in-Err-clause-does g c told =
     let start = g.W.World.log c.args.world.now in
     let mid = g.W.World.log c.begin.new.world in
-    let z = stored_on c.args.store.now (disk StoreSide (now start)).bytes in
+    let z = store_stored_on c.args.store.now (disk StoreSide (now start)).bytes in
     let v = volume_stored_on c.args.volume.now (disk VolumeSide (now start)).bytes in
     let k = g.W.World.blocks c.args.world.now StoreSide in
     let begun = c.begin.ensures.any_moment told in
@@ -69,12 +69,12 @@ pub returns-in-Ok-copy_and_finish-clause-does : goal.returns-in-Ok-copy_and_fini
 returns-in-Ok-copy_and_finish-clause-does g c told =
     let start = g.W.World.log c.args.world.now in
     let mid = g.W.World.log c.begin.new.world in
-    let z = stored_on c.args.store.now (disk StoreSide (now start)).bytes in
+    let z = store_stored_on c.args.store.now (disk StoreSide (now start)).bytes in
     let v = volume_stored_on c.args.volume.now (disk VolumeSide (now start)).bytes in
     let k = g.W.World.blocks c.args.world.now StoreSide in
     let begun = c.begin.ensures.any_moment told in
     let last = g.W.World.log c.copy_and_finish.new.world in
-    let after = stored_on c.copy_and_finish.new.store (disk StoreSide (now last)).bytes in
+    let after = store_stored_on c.copy_and_finish.new.store (disk StoreSide (now last)).bytes in
     let volume = same_volume _ start mid (c.requires.apart told) begun c.args.volume.now in
     let blocks = ap (λ (b : Side → ℕ). b StoreSide) c.begin.ensures.blocks in
     let did = moved (λ n s x. DoesCopy n s x c.args.date after mid last (Ok c.in-Ok-copy_and_finish.rows))
@@ -91,12 +91,12 @@ pub returns-in-Ok-cancel-clause-does : goal.returns-in-Ok-cancel-clause-does
 returns-in-Ok-cancel-clause-does g c told =
     let start = g.W.World.log c.args.world.now in
     let mid = g.W.World.log c.begin.new.world in
-    let z = stored_on c.args.store.now (disk StoreSide (now start)).bytes in
+    let z = store_stored_on c.args.store.now (disk StoreSide (now start)).bytes in
     let v = volume_stored_on c.args.volume.now (disk VolumeSide (now start)).bytes in
     let k = g.W.World.blocks c.args.world.now StoreSide in
     let begun = c.begin.ensures.any_moment told in
     let last = g.W.World.log c.copy_and_finish.new.world in
-    let after = stored_on c.copy_and_finish.new.store (disk StoreSide (now last)).bytes in
+    let after = store_stored_on c.copy_and_finish.new.store (disk StoreSide (now last)).bytes in
     let volume = same_volume _ start mid (c.requires.apart told) begun c.args.volume.now in
     let blocks = ap (λ (b : Side → ℕ). b StoreSide) c.begin.ensures.blocks in
     let did = moved (λ n s x. DoesCopy n s x c.args.date after mid last (Err c.in-Err-Refused.field-0))
@@ -109,19 +109,19 @@ returns-in-Ok-cancel-clause-does g c told =
       finished = did.finished;
       may = did.may;
       moments = cancel_moments k z v c.args.date did.finished start mid last end after why begun did.moments answers (c.cancel.ensures.any_moment told);
-      answers = refused_answers k z v c.args.date did.finished after (stored_on c.cancel.new.self (disk StoreSide (now end)).bytes) why answers (c.in-Ok-cancel.ensures.state told) c.in-Ok-cancel.ensures.running.1;
+      answers = refused_answers k z v c.args.date did.finished after (store_stored_on c.cancel.new.self (disk StoreSide (now end)).bytes) why answers (c.in-Ok-cancel.ensures.state told) c.in-Ok-cancel.ensures.running.1;
     }
 
 pub returns-in-Err-cancel-clause-does : goal.returns-in-Err-cancel-clause-does
 returns-in-Err-cancel-clause-does g c told =
     let start = g.W.World.log c.args.world.now in
     let mid = g.W.World.log c.begin.new.world in
-    let z = stored_on c.args.store.now (disk StoreSide (now start)).bytes in
+    let z = store_stored_on c.args.store.now (disk StoreSide (now start)).bytes in
     let v = volume_stored_on c.args.volume.now (disk VolumeSide (now start)).bytes in
     let k = g.W.World.blocks c.args.world.now StoreSide in
     let begun = c.begin.ensures.any_moment told in
     let last = g.W.World.log c.copy_and_finish.new.world in
-    let after = stored_on c.copy_and_finish.new.store (disk StoreSide (now last)).bytes in
+    let after = store_stored_on c.copy_and_finish.new.store (disk StoreSide (now last)).bytes in
     let volume = same_volume _ start mid (c.requires.apart told) begun c.args.volume.now in
     let blocks = ap (λ (b : Side → ℕ). b StoreSide) c.begin.ensures.blocks in
     let did = moved (λ n s x. DoesCopy n s x c.args.date after mid last (Err c.in-Err-Refused.field-0))
@@ -141,12 +141,12 @@ pub returns-in-Err-Fault-clause-does : goal.returns-in-Err-Fault-clause-does
 returns-in-Err-Fault-clause-does g c told =
     let start = g.W.World.log c.args.world.now in
     let mid = g.W.World.log c.begin.new.world in
-    let z = stored_on c.args.store.now (disk StoreSide (now start)).bytes in
+    let z = store_stored_on c.args.store.now (disk StoreSide (now start)).bytes in
     let v = volume_stored_on c.args.volume.now (disk VolumeSide (now start)).bytes in
     let k = g.W.World.blocks c.args.world.now StoreSide in
     let begun = c.begin.ensures.any_moment told in
     let last = g.W.World.log c.copy_and_finish.new.world in
-    let after = stored_on c.copy_and_finish.new.store (disk StoreSide (now last)).bytes in
+    let after = store_stored_on c.copy_and_finish.new.store (disk StoreSide (now last)).bytes in
     let volume = same_volume _ start mid (c.requires.apart told) begun c.args.volume.now in
     let blocks = ap (λ (b : Side → ℕ). b StoreSide) c.begin.ensures.blocks in
     let did = moved (λ n s x. DoesCopy n s x c.args.date after mid last c.copy_and_finish.result)
@@ -163,12 +163,12 @@ pub returns-in-Err-Memory-clause-does : goal.returns-in-Err-Memory-clause-does
 returns-in-Err-Memory-clause-does g c told =
     let start = g.W.World.log c.args.world.now in
     let mid = g.W.World.log c.begin.new.world in
-    let z = stored_on c.args.store.now (disk StoreSide (now start)).bytes in
+    let z = store_stored_on c.args.store.now (disk StoreSide (now start)).bytes in
     let v = volume_stored_on c.args.volume.now (disk VolumeSide (now start)).bytes in
     let k = g.W.World.blocks c.args.world.now StoreSide in
     let begun = c.begin.ensures.any_moment told in
     let last = g.W.World.log c.copy_and_finish.new.world in
-    let after = stored_on c.copy_and_finish.new.store (disk StoreSide (now last)).bytes in
+    let after = store_stored_on c.copy_and_finish.new.store (disk StoreSide (now last)).bytes in
     let volume = same_volume _ start mid (c.requires.apart told) begun c.args.volume.now in
     let blocks = ap (λ (b : Side → ℕ). b StoreSide) c.begin.ensures.blocks in
     let did = moved (λ n s x. DoesCopy n s x c.args.date after mid last c.copy_and_finish.result)

@@ -1,5 +1,5 @@
 use Rattle.std.proofs.Common.{◌∙◌, Some, Err, ap}
-use Rattle.tm_store_records.specs.Held.{stored_on as store_stored_on}
+use Rattle.tm_store_records.specs.Held.{store_stored_on}
 use Rattle.tm_world.specs.Log.{now}
 use Rattle.tm_world.specs.Outside.{Outside, disk}
 use Rattle.tm_world.specs.declared.world.Side.TheVariants.{Store as StoreSide}

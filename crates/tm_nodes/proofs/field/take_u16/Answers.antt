@@ -1,11 +1,11 @@
 use Rattle.std.proofs.Common.{arith}
 use Rattle.tm_codec.proofs.Fields.{length-u16_text}
-use Rattle.tm_nodes.proofs.Places.{stands, too_short}
+use Rattle.tm_nodes.proofs.Places.{stands, too_short, exits}
 use Rattle.tm_nodes.proofs.Numbers.{u16_reads}
 use Rattle.tm_nodes.proofs.field.take_u16.Goals as goal
 
-pub returns-in-Ok : goal.returns-in-Ok
-returns-in-Ok c = stands u16_reads c.in-Ok.number c.args.bytes.now _ 2 (omega arith) (length-u16_text c.in-Ok.number) c.in-Ok.ensures.stands c.split_at.ensures.back
+pub returns-in_err-number : goal.returns-in_err-number
+returns-in_err-number c = exits _ c.from_residual.result _ c.from_residual.ensures.1 (too_short u16_reads 2 length-u16_text c.args.bytes.now c.in_err-number.ensures.short.0)
 
-pub returns-in-Err : goal.returns-in-Err
-returns-in-Err c = too_short u16_reads 2 length-u16_text c.args.bytes.now c.in-Err.ensures.short.0
+pub returns : goal.returns
+returns c = stands u16_reads c.in_ok-number.number c.args.bytes.now _ 2 (omega arith) (length-u16_text c.in_ok-number.number) c.in_ok-number.ensures.stands c.split_at.ensures.back

@@ -8,8 +8,8 @@ use Rattle.tm_nodes.proofs.path.take_paths.Goals as goal
 pub loop-alloc-init : goal.loop-alloc-init
 loop-alloc-init c = (omega (arith, c.new-paths.ensures.len), limit_begins next_path_at 256 _ _ c.args.bytes.now c.new-paths.ensures.len c.new-paths.ensures.items)
 
-pub returns-then-len-ge-MOST_PATHS : goal.returns-then-len-ge-MOST_PATHS
-returns-then-len-ge-MOST_PATHS c =
+pub returns-then-len-ge-MAX_FIXED : goal.returns-then-len-ge-MAX_FIXED
+returns-then-len-ge-MAX_FIXED c =
     let some = some_left c.is_empty.result c.loop-alloc.rest.now c.is_empty.ensures c.loop-alloc-test.true in
     limit_fills next_path_at 256 (vec_len c.loop-alloc.paths) c.loop-alloc.paths.items c.loop-alloc.rest.now _ (omega arith) some c.loop-alloc.invariant.1
 

@@ -36,9 +36,6 @@ returns-clause-outcome g c told fits whole =
     let old = g.W.World.log c.args.world.now in
     let mid = g.W.World.log c.open_pair.new.world in
     let new = g.W.World.log c.run_images.new.world in
-    let p = c.args.command.volume.now in
-    let q = c.args.command.store.now in
-    let create = c.args.command.create in
     let v = as_read (found c.args.command.volume.now c.args.command.create (now old)) in
     let z = as_read (found c.args.command.store.now c.args.command.create (now old)) in
     gave_later v z c.args.lines.now (now old) (now mid) (now new) c.run_images.result (c.open_pair.ensures.said told)
@@ -49,9 +46,6 @@ returns-clause-prefix g c told fits status text ran =
     let old = g.W.World.log c.args.world.now in
     let mid = g.W.World.log c.open_pair.new.world in
     let new = g.W.World.log c.run_images.new.world in
-    let p = c.args.command.volume.now in
-    let q = c.args.command.store.now in
-    let create = c.args.command.create in
     let v = as_read (found c.args.command.volume.now c.args.command.create (now old)) in
     let z = as_read (found c.args.command.store.now c.args.command.create (now old)) in
     prefix_after text (now old) (now mid) (now new) (c.open_pair.ensures.said told)
@@ -126,11 +120,6 @@ returns-in-Err-clause-shut_store g c told r reads shut =
 pub returns-clause-silent : goal.returns-clause-silent
 returns-clause-silent g c told shut cut =
     let old = g.W.World.log c.args.world.now in
-    let mid = g.W.World.log c.open_pair.new.world in
-    let new = g.W.World.log c.run_images.new.world in
-    let p = c.args.command.volume.now in
-    let q = c.args.command.store.now in
-    let create = c.args.command.create in
     let v = as_read (found c.args.command.volume.now c.args.command.create (now old)) in
     let z = as_read (found c.args.command.store.now c.args.command.create (now old)) in
     c.run_images.ensures.silent told v z (c.in-Ok.ensures.pair told) shut cut ∙ c.open_pair.ensures.said told

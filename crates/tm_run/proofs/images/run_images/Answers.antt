@@ -18,9 +18,6 @@ returns-in-Ok-clause-history g c told v z pair r reads unspent =
     let new = g.W.World.log c.run_session.new.world in
     let s = state_on c.in-Ok.session (now mid) in
     let counts = counts_of v z (now old) c.args.volume_blocks c.args.store_blocks pair (g.met.W.World.counts told c.args.world.now VolumeSide ∙ c.requires.count) c.requires.small (g.met.W.World.counts told c.args.world.now StoreSide ∙ c.requires.store_count) c.requires.store_small in
-    let opens = c.in-Ok.ensures.opens told in
-    let can = of_volume CanOpen v z (now old) pair opens.0 in
-    let also = of_store CanOpenStore v z (now old) pair opens.1 in
     let is : OpensAs v z s = λ r reads. opened_state v z r c.args.volume_blocks c.args.store_blocks s counts (c.in-Ok.ensures.state told r (reads_now v z r (now old) pair reads)) in
     ran_on c.commits_end.ensures.last c.commits_end.ensures.opening r v.count z.count c.args.lines.now old mid new (c.load.ensures.any_moment told r (reads_now v z r (now old) pair reads)) (c.load.ensures.said told)
     s c.run_session.result (is r reads) (c.run_session.ensures.does told)
@@ -28,8 +25,6 @@ returns-in-Ok-clause-history g c told v z pair r reads unspent =
 pub returns-in-Err-Bad-clause-history : goal.returns-in-Err-Bad-clause-history
 returns-in-Err-Bad-clause-history g c told v z pair r reads unspent =
     let old = g.W.World.log c.args.world.now in
-    let mid = g.W.World.log c.load.new.world in
-    let new = g.W.World.log c.say_bad_image.new.world in
     let n = c.args.volume_blocks in
     let k = c.args.store_blocks in
     let counts = counts_of v z (now old) c.args.volume_blocks c.args.store_blocks pair (g.met.W.World.counts told c.args.world.now VolumeSide ∙ c.requires.count) c.requires.small (g.met.W.World.counts told c.args.world.now StoreSide ∙ c.requires.store_count) c.requires.store_small in

@@ -8,7 +8,7 @@ use Rattle.tm_run.proofs.script.attach_script.Goals as goal
 pub returns-clause-script : goal.returns-clause-script
 returns-clause-script g c told =
     attached_left c.args.path.now (now (g.W.World.log c.args.world.now)) (c.in_ok-attach.ensures.script told refl)
-    ∙ ap (λ (s : Outside). Some s.left) (sym (c.in_ok-attach.ensures.ok told).ends)
+    ∙ ap (λ (s : Outside). Some s.unread) (sym (c.in_ok-attach.ensures.ok told).ends)
 
 pub returns-clause-reading : goal.returns-clause-reading
 returns-clause-reading g c told =

@@ -12,7 +12,7 @@ returns-in_err-extend_from_slice-clause-reading g c told =
 
 pub returns-clause-left : goal.returns-clause-left
 returns-clause-left g c told =
-    ap (λ (s : Outside). s.left) (c.in_ok-taken.ensures.steps told).ends ∙ left_took (now (g.W.World.log c.args.world.now)) c.in_ok-taken.taken
+    ap (λ (s : Outside). s.unread) (c.in_ok-taken.ensures.steps told).ends ∙ left_took (now (g.W.World.log c.args.world.now)) c.in_ok-taken.taken
 
 pub returns-clause-reading : goal.returns-clause-reading
 returns-clause-reading g c told =

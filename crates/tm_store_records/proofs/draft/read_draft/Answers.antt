@@ -2,11 +2,11 @@ use Rattle.std.proofs.Common.{◌≡◌, ◌<◌, ◌++◌, ℕ, Option, find, n
 use Rattle.std.specs.Prelude.{nat_lt}
 use Rattle.std.specs.Map.{keys_of}
 use Rattle.std.specs.Option.{option_to_list}
-use Rattle.tm_store_records.specs.Heads.{Head, heads_of}
+use Rattle.tm_store_records.specs.Heads.{RecordHead, heads_of}
 use Rattle.tm_store_records.specs.Found.{snapshots_in, nodes_in, snapshot_in, node_in}
 use Rattle.tm_store_records.specs.Rules.{is_record}
 use Rattle.tm_store_records.specs.Drafts.{noted}
-use Rattle.tm_store_records.proofs.Onward.{rest_of, next_of, start, found_there, Sorted}
+use Rattle.tm_store_records.proofs.NextKeyLemmas.{rest_of, next_of, start, found_there, Sorted}
 use Rattle.tm_store_records.proofs.Reading.{IsUnreadBefore, to_go, goes, heads_sorted, keys_are, head_there, unread_first, unread_next, put_before, key_small}
 use Rattle.tm_store_records.proofs.draft.read_draft.Goals as goal
 
@@ -45,11 +45,11 @@ loop-next-preserved c =
     let head = head_there records key (inv.there key c.in-Some.is) in
     let after : c.key_after-next.result ≡ next_of key heads = c.key_after-next.ensures ∙ ap (λ (ks : List ℕ). find (λ k. nat_lt key k) ks) (sym (keys_are records)) in
     let snapshots : new.snapshots.items ≡ c.loop-next.draft.snapshots.items ++ option_to_list (snapshot_in (key, head.0))
-    = subst (λ (o : Option Head). IfSome o (λ head. new.snapshots.items ≡ c.loop-next.draft.snapshots.items ++ option_to_list (snapshot_in (key, head)))) head.1 c.in_ok-read_at.ensures.snapshots in
+    = subst (λ (o : Option RecordHead). IfSome o (λ head. new.snapshots.items ≡ c.loop-next.draft.snapshots.items ++ option_to_list (snapshot_in (key, head)))) head.1 c.in_ok-read_at.ensures.snapshots in
     let nodes : new.nodes.items ≡ c.loop-next.draft.nodes.items ++ option_to_list (node_in (key, head.0))
-    = subst (λ (o : Option Head). IfSome o (λ head. new.nodes.items ≡ c.loop-next.draft.nodes.items ++ option_to_list (node_in (key, head)))) head.1 c.in_ok-read_at.ensures.nodes in
+    = subst (λ (o : Option RecordHead). IfSome o (λ head. new.nodes.items ≡ c.loop-next.draft.nodes.items ++ option_to_list (node_in (key, head)))) head.1 c.in_ok-read_at.ensures.nodes in
     let unread : new.unread ≡ noted c.loop-next.draft.unread key (is_record key head.0)
-    = subst (λ (o : Option Head). IfSome o (λ head. new.unread ≡ noted c.loop-next.draft.unread key (is_record key head))) head.1 c.in_ok-read_at.ensures.unread in
+    = subst (λ (o : Option RecordHead). IfSome o (λ head. new.unread ≡ noted c.loop-next.draft.unread key (is_record key head))) head.1 c.in_ok-read_at.ensures.unread in
     record {
       machine = c.in_ok-read_at.ensures.machine ∙ inv.machine;
       snapshots = (λ i. snapshots i ++ snapshots_in (rest_of (after i) heads))

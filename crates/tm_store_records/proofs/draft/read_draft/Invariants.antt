@@ -2,7 +2,7 @@ use Rattle.std.proofs.Common.{◌≡◌, ◌++◌, ℕ, Some, true, is_some}
 use Rattle.tm_records.specs.Records.{at}
 use Rattle.tm_store_records.specs.Heads.{heads_of}
 use Rattle.tm_store_records.specs.Found.{machine_in, snapshots_in, nodes_in}
-use Rattle.tm_store_records.proofs.Onward.{rest_of}
+use Rattle.tm_store_records.proofs.NextKeyLemmas.{rest_of}
 use Rattle.tm_store_records.proofs.Reading.{IsUnreadBefore, to_go}
 use Rattle.tm_store_records.proofs.draft.read_draft.Given as goal
 

@@ -6,7 +6,7 @@ use Rattle.tm_graph.specs.Nodes.{Nodes}
 use Rattle.tm_store_records.specs.declared.snapshot.Snapshot.{Snapshot}
 use Rattle.tm_store_records.specs.Found.{roots_of}
 use Rattle.tm_store_records.specs.Rules.{IsGoodNode}
-use Rattle.tm_store_records.specs.Drafts.{IsFirstBadNode, IsLeastOf, KeepsNode}
+use Rattle.tm_store_records.specs.Drafts.{IsFirstBadNode, IsLeastFailing, NodesAreGoodAt}
 use Rattle.tm_store_records.proofs.Least.{least_node, all_nodes}
 use Rattle.tm_store_records.proofs.read.bad_node.Goals as goal
 
@@ -23,7 +23,7 @@ returns-in-Some c =
     (subst (λ (x : List Snapshot). IsFirstBadNode c.deref.result.now (roots_of x) number place) c.deref-2.ensures.value told) in
     let lt = slice_get_within g place first.entry first.is in
     let is : slice_get g place ≡ Some e = slice_get-get_or g place e lt ∙ ap (λ (x : ℕ × NodeRow). Some x) (sym c.index.ensures) in
-    subst (λ n. IsLeastOf (KeepsNode g (roots_of ss) number) (Some (2 ^ 62 + n))) (sym c.id.view_is) (least_node g (roots_of ss) number place e c.requires.ordered.nodes_rise first is)
+    subst (λ n. IsLeastFailing (NodesAreGoodAt g (roots_of ss) number) (Some (2 ^ 62 + n))) (sym c.id.view_is) (least_node g (roots_of ss) number place e c.requires.ordered.nodes_rise first is)
 
 pub returns-in-None : goal.returns-in-None
 returns-in-None c = all_nodes c.args.draft.now.nodes.items c.deref.result.now c.args.draft.now.snapshots.items c.deref-2.result.now c.args.number c.deref.ensures.value c.deref-2.ensures.value

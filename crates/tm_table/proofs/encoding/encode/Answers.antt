@@ -3,7 +3,7 @@ use Rattle.std.specs.Map.Iter.{deref_pair}
 use Rattle.std.proofs.lemmas.Map.Iter.{iter_end}
 use Rattle.tm_records.specs.Records.{Records}
 use Rattle.tm_table.specs.Text.{table_text}
-use Rattle.tm_table.proofs.Writing.{left, table-none, table-kept, table-skipped}
+use Rattle.tm_table.proofs.Writing.{without_keys, table-none, table-kept, table-skipped}
 use Rattle.tm_table.proofs.Leaving.{without-left}
 use Rattle.tm_table.proofs.encoding.encode.Goals as goal
 
@@ -19,4 +19,4 @@ loop-key-preserved-then-is_among c = table-skipped c.args.left_out.now c.loop-ke
 pub returns : goal.returns
 returns c =
     let e : map deref_pair c.loop-key.yielded ≡ c.args.records.now.entries = search (rules, iter_end) in
-    c.loop-key.invariant ∙ ap (λ (es : Records). table_text (left c.args.left_out.now es)) e ∙ sym (ap table_text (without-left c.args.left_out.now c.args.records.now.entries (search rules)))
+    c.loop-key.invariant ∙ ap (λ (es : Records). table_text (without_keys c.args.left_out.now es)) e ∙ sym (ap table_text (without-left c.args.left_out.now c.args.records.now.entries (search rules)))

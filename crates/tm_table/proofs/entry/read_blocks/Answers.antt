@@ -2,7 +2,7 @@ use Rattle.std.proofs.Common.{◌≡◌, ◌<◌, ◌≤◌, ◌∙◌, ◌++◌
 use Rattle.std.specs.List.{All}
 use Rattle.std.specs.Bool.{IsTrue}
 use Rattle.std.proofs.lemmas.List.Elements.{All-push}
-use Rattle.tm_codec.specs.Places.{StandsAt}
+use Rattle.tm_codec.specs.Places.{IsTextAt}
 use Rattle.tm_table.specs.Text.{numbers}
 use Rattle.tm_table.proofs.Reading.{numbers_fit}
 use Rattle.tm_table.proofs.Standing.{number_stands, stands_push}
@@ -35,7 +35,7 @@ loop-i-preserved c =
     let inv = c.loop-i.invariant in
     record {
       many = omega (arith, ap length pushed, length-append c.loop-i.blocks.items (c.in_ok-block.block ∷ []), inv.many);
-      stand = subst (λ bs. StandsAt (numbers bs) c.args.at c.args.text.now) (sym pushed) (stands_push c.loop-i.blocks.items c.in_ok-block.block c.args.at c.loop-i.i c.args.text.now inv.many inv.stand c.in_ok-block.ensures.stands);
+      stand = subst (λ bs. IsTextAt (numbers bs) c.args.at c.args.text.now) (sym pushed) (stands_push c.loop-i.blocks.items c.in_ok-block.block c.args.at c.loop-i.i c.args.text.now inv.many inv.stand c.in_ok-block.ensures.stands);
       each = subst (All (λ b. (3 ≤ b) × (b < c.args.total))) (sym pushed) (All-push (λ b. (3 ≤ b) × (b < c.args.total)) c.loop-i.blocks.items c.in_ok-block.block inv.each (search rules));
       room = omega (arith, inv.room, c.push.ensures.capacity);
     }

@@ -7,8 +7,8 @@ use Rattle.tm_text.specs.Words.{IsNameWord}
 use Rattle.tm_text.proofs.WordLemmas.{length-names, AreNames-push, AreNames-at, Reads-err}
 use Rattle.tm_text.proofs.words.names.Goals as goal
 
-pub returns-then-parts-gt64 : goal.returns-then-parts-gt64
-returns-then-parts-gt64 c =
+pub returns-then-parts-gt-MAX_NAMES : goal.returns-then-parts-gt-MAX_NAMES
+returns-then-parts-gt-MAX_NAMES c =
     λ path is. omega (arith, length-names _ _ is.0, is.1, length-map c.args.parts.now (λ (w : Bor (List ℕ)). w.now))
 
 pub returns-in_err-name : goal.returns-in_err-name

@@ -1,7 +1,7 @@
 use Rattle.std.proofs.lemmas.List.Elements.{AllWithin-more, at_read}
 use Rattle.tm_base.specs.IsName.{IsName}
-use Rattle.tm_volume_records.proofs.FixedRules.{name_had}
 use Rattle.tm_volume_records.proofs.fixed.are_names.Goals as goal
+use Rattle.tm_nodes.proofs.Fields.{name_had}
 
 pub loop-name-preserved : goal.loop-name-preserved
 loop-name-preserved c =

@@ -8,15 +8,15 @@ use Rattle.tm_volume_records.specs.Records.{head_key}
 use Rattle.tm_volume_records.proofs.Heading.{bad_at, tells_none, no_paths, fixed_is}
 use Rattle.tm_volume_records.proofs.head.read_fixed.Goals as goal
 
-pub returns-in-Ok-read-clause-fixed : goal.returns-in-Ok-read-clause-fixed
-returns-in-Ok-read-clause-fixed g c told =
+pub returns-in-Ok-clause-fixed : goal.returns-in-Ok-clause-fixed
+returns-in-Ok-clause-fixed g c told =
     let bytes = (disk OfVolume (now (g.W.World.log c.args.world.now))).bytes in
-    fixed_is bytes c.args.image.now.records c.in-Ok.bytes.items c.in-Ok-read.fixed c.requires.there (c.in-Ok.ensures.bytes told)
-    (ap paths_of (sym c.deref.ensures.value) ∙ c.in-Ok-read.ensures.told)
+    fixed_is bytes c.args.image.now.records c.in_ok-bytes.bytes.items c.in-Ok.fixed c.requires.there (c.in_ok-bytes.ensures.bytes told)
+    (ap paths_of (sym c.deref.ensures.value) ∙ c.in-Ok.ensures.told)
 
 pub returns-in-Err-BadNode-clause-bad : goal.returns-in-Err-BadNode-clause-bad
 returns-in-Err-BadNode-clause-bad g c told =
     let bytes = (disk OfVolume (now (g.W.World.log c.args.world.now))).bytes in
     bad_at FixedPaths c.bad_record.result head_key _ c.bad_record.ensures
-    (no_paths bytes c.args.image.now.records c.in-Ok.bytes.items (c.in-Ok.ensures.bytes told)
+    (no_paths bytes c.args.image.now.records c.in_ok-bytes.bytes.items (c.in_ok-bytes.ensures.bytes told)
     (ap paths_of (sym c.deref.ensures.value) ∙ tells_none 1 c.in-Err-BadNode.field-0-0 c.in-Err-BadNode.field-0 (paths_of c.deref.result.now) c.in-Err-BadNode.field-0-is c.in-Err-BadNode.ensures.told))

@@ -1,8 +1,8 @@
 use Rattle.std.proofs.Common.{◌≡◌, ◌-◌}
 use Rattle.tm_items.specs.Placings.{Items}
 use Rattle.tm_items.specs.Rules.{climbs}
-use Rattle.tm_volume_records.specs.Loads.{AreSpots}
+use Rattle.tm_volume_records.specs.Loads.{ArePositions}
 use Rattle.tm_volume_records.proofs.indexing.climbs.Given as goal
 
 abbrev pub invariant-loop-step : goal.invariant-loop-step
-invariant-loop-step l = (items : Items) → AreSpots items l.spots → climbs 64 items l.number ≡ climbs (64 - l._step) items l.at
+invariant-loop-step l = (items : Items) → ArePositions items l.positions → climbs 64 items l.number ≡ climbs (64 - l._step) items l.at

@@ -2,7 +2,7 @@ use Rattle.std.proofs.Common.{◌≡◌, ◌∙◌, true, false, ltb, sym, ap, r
 use Rattle.std.proofs.lemmas.Bool.{cond-true, cond-false}
 use Rattle.tm_world.specs.Outside.{disk, put_disk, part_of}
 use Rattle.tm_memworld.specs.Torn.{loosened}
-use Rattle.tm_memworld.specs.Faults.{count_of, raised}
+use Rattle.tm_world.specs.Counts.{count_of, raised}
 use Rattle.tm_memworld.specs.Devices.{outside}
 use Rattle.tm_memworld.specs.State.{used, faulted, with_outside}
 use Rattle.tm_memworld.specs.World.{state}

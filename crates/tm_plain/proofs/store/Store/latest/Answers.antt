@@ -1,6 +1,6 @@
 use Rattle.std.proofs.Common.{ap, ◌∙◌}
 use Rattle.tm_tree.specs.States.{StoreState, latest}
-use Rattle.tm_plain.proofs.LastLemmas.{last_is}
+use Rattle.tm_base.proofs.Facts.{last_is}
 use Rattle.tm_plain.proofs.store.Store.latest.Goals as goal
 
 pub returns : goal.returns

@@ -3,13 +3,14 @@ use Rattle.tm_world.specs.Outside.{disk}
 use Rattle.tm_world.specs.Log.{now}
 use Rattle.tm_world.specs.declared.world.Side.TheVariants.{Store}
 use Rattle.tm_world.proofs.Going.{Runs-none}
-use Rattle.tm_store.proofs.Blanking.{name_had, made_puts, made_fits, made_run, made_store, made_whole}
+use Rattle.tm_store.proofs.Blanking.{made_puts, made_fits, made_run, made_store, made_whole}
 use Rattle.tm_store_records.specs.Tags.{FitsTag}
 use Rattle.tm_store.proofs.Tagging.{tag_fits}
 use Rattle.tm_store.proofs.store.Store.blank.Goals as goal
+use Rattle.tm_nodes.proofs.Fields.{name_had}
 
-pub returns-then-blocks-lt-FEWEST_BLOCKS-clause-any_moment : goal.returns-then-blocks-lt-FEWEST_BLOCKS-clause-any_moment
-returns-then-blocks-lt-FEWEST_BLOCKS-clause-any_moment g c told = Runs-none _ _ _
+pub returns-then-blocks-lt-MIN_BLOCKS-clause-any_moment : goal.returns-then-blocks-lt-MIN_BLOCKS-clause-any_moment
+returns-then-blocks-lt-MIN_BLOCKS-clause-any_moment g c told = Runs-none _ _ _
 
 pub returns-in_err-put-clause-any_moment : goal.returns-in_err-put-clause-any_moment
 returns-in_err-put-clause-any_moment g c told = Runs-none _ _ _

@@ -8,7 +8,7 @@ use Rattle.tm_image.specs.Content.{Content}
 use Rattle.tm_image.specs.Reads.{LeavesOneOf, entries_of}
 use Rattle.tm_store_records.specs.Tags.{FitsTag, tag_of}
 use Rattle.tm_store_records.specs.States.{LeavesStore}
-use Rattle.tm_store_records.specs.Held.{Held, IsWhole, store_on, stored_on}
+use Rattle.tm_store_records.specs.Held.{Held, IsWhole, store_on, store_stored_on}
 use Rattle.tm_image.specs.Room.{AreStaged}
 use Rattle.tm_store_records.proofs.Retagging.{retagged, same_store, whole_again, staged_again}
 use Rattle.tm_store.proofs.Unstaging.{is_idle, settled_content, room_content}
@@ -35,7 +35,7 @@ returns-in_err-retag-clause-any_moment g c told =
     let b = (disk Store (now l0)).bytes in
     let entries = entries_of (disk a.image.side (now l0)).bytes a.image.records in
     let runs = subst (λ (t : List ℕ). Runs a.image.side (LeavesOneOf a.image.side entries a.image.root.tag entries t) l0 l1) c.write_tag-tag.ensures.tag (c.in_err-retag.ensures.any_moment told) in
-    subst (λ (k : Held). Runs Store (LeavesStore (stored_on k b) (record { store = store_on k b; running = None })) l0 l1) c.self.view_is (retagged h l0 l1 None whole fits runs)
+    subst (λ (k : Held). Runs Store (LeavesStore (store_stored_on k b) (record { store = store_on k b; running = None })) l0 l1) c.self.view_is (retagged h l0 l1 None whole fits runs)
 
 pub returns-clause-any_moment : goal.returns-clause-any_moment
 returns-clause-any_moment g c told =
@@ -48,7 +48,7 @@ returns-clause-any_moment g c told =
     let b = (disk Store (now l0)).bytes in
     let entries = entries_of (disk a.image.side (now l0)).bytes a.image.records in
     let runs = subst (λ (t : List ℕ). Runs a.image.side (LeavesOneOf a.image.side entries a.image.root.tag entries t) l0 l1) c.write_tag-tag.ensures.tag (c.in_ok-retag.ensures.any_moment told) in
-    subst (λ (k : Held). Runs Store (LeavesStore (stored_on k b) (record { store = store_on k b; running = None })) l0 l1) c.self.view_is (retagged h l0 l1 None whole fits runs)
+    subst (λ (k : Held). Runs Store (LeavesStore (store_stored_on k b) (record { store = store_on k b; running = None })) l0 l1) c.self.view_is (retagged h l0 l1 None whole fits runs)
 
 pub returns-clause-state : goal.returns-clause-state
 returns-clause-state g c told =

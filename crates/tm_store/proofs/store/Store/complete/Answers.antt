@@ -9,11 +9,11 @@ use Rattle.tm_graph.specs.Nodes.{greatest, root_links}
 use Rattle.tm_graph.specs.Growing.{grown}
 use Rattle.tm_store_records.specs.declared.snapshot.Snapshot.{Snapshot}
 use Rattle.tm_store_records.specs.States.{LeavesStore}
-use Rattle.tm_store_records.specs.Held.{Held, store_on, stored_on}
-use Rattle.tm_store_records.specs.Built.{completed, snapshot_built}
-use Rattle.tm_store_growth.specs.Puts.{all_puts}
-use Rattle.tm_store_growth.specs.Completing.{after_complete, complete_refusal}
-use Rattle.tm_store_growth.specs.Growth.{MayComplete, puts_of, records_after}
+use Rattle.tm_store_records.specs.Held.{Held, store_on, store_stored_on}
+use Rattle.tm_store_records.specs.Built.{store_completed, snapshot_built}
+use Rattle.tm_snapshot.specs.Puts.{all_puts}
+use Rattle.tm_snapshot.specs.Completing.{after_complete, complete_refusal}
+use Rattle.tm_snapshot.specs.Growth.{MayComplete, puts_of, records_after}
 use Rattle.tm_store.specs.Joining.{joined}
 use Rattle.tm_store.proofs.Completing.{all_hold, few_held, full_apart, may_complete, not_refused, put_asked, refused, run_completed, some_asked, some_holds, staged_asked, state_after, whole_after}
 use Rattle.tm_store.proofs.store.Store.complete.Goals as goal
@@ -21,8 +21,8 @@ use Rattle.tm_store.proofs.store.Store.complete.Goals as goal
 pub count_with-count-requires : goal.count_with-count-requires
 count_with-count-requires g c = few_held c.args.self.now c.requires.whole
 
-pub returns-then-count-gt-MOST_NODES-clause-any_moment : goal.returns-then-count-gt-MOST_NODES-clause-any_moment
-returns-then-count-gt-MOST_NODES-clause-any_moment g c told = all_hold c.args.self.now.running _ (λ date. Runs-none Store _ (g.W.World.log c.args.world.now))
+pub returns-then-count-gt-MAX_NODES-clause-any_moment : goal.returns-then-count-gt-MAX_NODES-clause-any_moment
+returns-then-count-gt-MAX_NODES-clause-any_moment g c told = all_hold c.args.self.now.running _ (λ date. Runs-none Store _ (g.W.World.log c.args.world.now))
 
 pub returns-in_err-same_name-clause-any_moment : goal.returns-in_err-same_name-clause-any_moment
 returns-in_err-same_name-clause-any_moment g c told = all_hold c.args.self.now.running _ (λ date. Runs-none Store _ (g.W.World.log c.args.world.now))
@@ -39,7 +39,7 @@ join-requires-clause-may g c =
     let id = c.args.id in
     let mark = c.args.mark.now in
     let runs : h.running ≡ Some date = sym c.running.ensures ∙ c.in-Some.is in
-    let may : MayComplete h built date volume id mark = may_complete h built date volume id mark c.requires.whole c.requires.built c.requires.mark runs c.in_ok-same_name.ensures.rules c.ranges.id.fits (omega (arith, c.if-count-gt-MOST_NODES.false, c.count_with-count.ensures)) in
+    let may : MayComplete h built date volume id mark = may_complete h built date volume id mark c.requires.whole c.requires.built c.requires.mark runs c.in_ok-same_name.ensures.rules c.ranges.id.fits (omega (arith, c.if-count-gt-MAX_NODES.false, c.count_with-count.ensures)) in
     (c.built_may_grow.ensures.joins h built date volume id mark may).may
 
 pub join-requires-clause-records : goal.join-requires-clause-records
@@ -51,7 +51,7 @@ join-requires-clause-records g c =
     let id = c.args.id in
     let mark = c.args.mark.now in
     let runs : h.running ≡ Some date = sym c.running.ensures ∙ c.in-Some.is in
-    let may : MayComplete h built date volume id mark = may_complete h built date volume id mark c.requires.whole c.requires.built c.requires.mark runs c.in_ok-same_name.ensures.rules c.ranges.id.fits (omega (arith, c.if-count-gt-MOST_NODES.false, c.count_with-count.ensures)) in
+    let may : MayComplete h built date volume id mark = may_complete h built date volume id mark c.requires.whole c.requires.built c.requires.mark runs c.in_ok-same_name.ensures.rules c.ranges.id.fits (omega (arith, c.if-count-gt-MAX_NODES.false, c.count_with-count.ensures)) in
     c.built_may_grow.ensures.records h built date volume id mark may
 
 pub commit_joined-requires-clause-put : goal.commit_joined-requires-clause-put
@@ -63,7 +63,7 @@ commit_joined-requires-clause-put g c =
     let id = c.args.id in
     let mark = c.args.mark.now in
     let runs : h.running ≡ Some date = sym c.running.ensures ∙ c.in-Some.is in
-    let may : MayComplete h built date volume id mark = may_complete h built date volume id mark c.requires.whole c.requires.built c.requires.mark runs c.in_ok-same_name.ensures.rules c.ranges.id.fits (omega (arith, c.if-count-gt-MOST_NODES.false, c.count_with-count.ensures)) in
+    let may : MayComplete h built date volume id mark = may_complete h built date volume id mark c.requires.whole c.requires.built c.requires.mark runs c.in_ok-same_name.ensures.rules c.ranges.id.fits (omega (arith, c.if-count-gt-MAX_NODES.false, c.count_with-count.ensures)) in
     let s = snapshot_built h built date volume id mark in
     let k = c.join.new.self in
     let ps = c.in_ok-joined.joined.put.items in
@@ -81,7 +81,7 @@ commit_joined-requires-clause-staged g c =
     let id = c.args.id in
     let mark = c.args.mark.now in
     let runs : h.running ≡ Some date = sym c.running.ensures ∙ c.in-Some.is in
-    let may : MayComplete h built date volume id mark = may_complete h built date volume id mark c.requires.whole c.requires.built c.requires.mark runs c.in_ok-same_name.ensures.rules c.ranges.id.fits (omega (arith, c.if-count-gt-MOST_NODES.false, c.count_with-count.ensures)) in
+    let may : MayComplete h built date volume id mark = may_complete h built date volume id mark c.requires.whole c.requires.built c.requires.mark runs c.in_ok-same_name.ensures.rules c.ranges.id.fits (omega (arith, c.if-count-gt-MAX_NODES.false, c.count_with-count.ensures)) in
     let s = snapshot_built h built date volume id mark in
     let k = c.join.new.self in
     let ps = c.in_ok-joined.joined.put.items in
@@ -99,7 +99,7 @@ commit_joined-requires-clause-some g c =
     let id = c.args.id in
     let mark = c.args.mark.now in
     let runs : h.running ≡ Some date = sym c.running.ensures ∙ c.in-Some.is in
-    let may : MayComplete h built date volume id mark = may_complete h built date volume id mark c.requires.whole c.requires.built c.requires.mark runs c.in_ok-same_name.ensures.rules c.ranges.id.fits (omega (arith, c.if-count-gt-MOST_NODES.false, c.count_with-count.ensures)) in
+    let may : MayComplete h built date volume id mark = may_complete h built date volume id mark c.requires.whole c.requires.built c.requires.mark runs c.in_ok-same_name.ensures.rules c.ranges.id.fits (omega (arith, c.if-count-gt-MAX_NODES.false, c.count_with-count.ensures)) in
     let s = snapshot_built h built date volume id mark in
     let k = c.join.new.self in
     let ps = c.in_ok-joined.joined.put.items in
@@ -117,7 +117,7 @@ part-requires g c =
     let id = c.args.id in
     let mark = c.args.mark.now in
     let runs : h.running ≡ Some date = sym c.running.ensures ∙ c.in-Some.is in
-    let may : MayComplete h built date volume id mark = may_complete h built date volume id mark c.requires.whole c.requires.built c.requires.mark runs c.in_ok-same_name.ensures.rules c.ranges.id.fits (omega (arith, c.if-count-gt-MOST_NODES.false, c.count_with-count.ensures)) in
+    let may : MayComplete h built date volume id mark = may_complete h built date volume id mark c.requires.whole c.requires.built c.requires.mark runs c.in_ok-same_name.ensures.rules c.ranges.id.fits (omega (arith, c.if-count-gt-MAX_NODES.false, c.count_with-count.ensures)) in
     let s = snapshot_built h built date volume id mark in
     let k = c.join.new.self in
     let ps = c.in_ok-joined.joined.put.items in
@@ -137,7 +137,7 @@ returns-in-Ok-clause-any_moment g c told =
     let id = c.args.id in
     let mark = c.args.mark.now in
     let runs : h.running ≡ Some date = sym c.running.ensures ∙ c.in-Some.is in
-    let may : MayComplete h built date volume id mark = may_complete h built date volume id mark c.requires.whole c.requires.built c.requires.mark runs c.in_ok-same_name.ensures.rules c.ranges.id.fits (omega (arith, c.if-count-gt-MOST_NODES.false, c.count_with-count.ensures)) in
+    let may : MayComplete h built date volume id mark = may_complete h built date volume id mark c.requires.whole c.requires.built c.requires.mark runs c.in_ok-same_name.ensures.rules c.ranges.id.fits (omega (arith, c.if-count-gt-MAX_NODES.false, c.count_with-count.ensures)) in
     let s = snapshot_built h built date volume id mark in
     let k = c.join.new.self in
     let ps = c.in_ok-joined.joined.put.items in
@@ -151,7 +151,7 @@ returns-in-Ok-clause-any_moment g c told =
     let bytes = (disk Store (now l0)).bytes in
     let none = not_refused h built date volume id mark may k ps is puts need c.in-Ok.ensures.fits in
     let stored = c.puts_grow.ensures.stored h built date volume id mark (records_after h built date volume id mark) bytes may grow in
-    some_holds h.running date (λ d. Runs Store (LeavesStore (stored_on h bytes) (after_complete h built d volume id mark bytes)) l0 l1) runs (run_completed h built date volume id mark may k ps is puts bytes l0 l1 none stored (c.in-Ok.ensures.any_moment told))
+    some_holds h.running date (λ d. Runs Store (LeavesStore (store_stored_on h bytes) (after_complete h built d volume id mark bytes)) l0 l1) runs (run_completed h built date volume id mark may k ps is puts bytes l0 l1 none stored (c.in-Ok.ensures.any_moment told))
 
 pub returns-in-Ok-clause-state : goal.returns-in-Ok-clause-state
 returns-in-Ok-clause-state g c told =
@@ -162,7 +162,7 @@ returns-in-Ok-clause-state g c told =
     let id = c.args.id in
     let mark = c.args.mark.now in
     let runs : h.running ≡ Some date = sym c.running.ensures ∙ c.in-Some.is in
-    let may : MayComplete h built date volume id mark = may_complete h built date volume id mark c.requires.whole c.requires.built c.requires.mark runs c.in_ok-same_name.ensures.rules c.ranges.id.fits (omega (arith, c.if-count-gt-MOST_NODES.false, c.count_with-count.ensures)) in
+    let may : MayComplete h built date volume id mark = may_complete h built date volume id mark c.requires.whole c.requires.built c.requires.mark runs c.in_ok-same_name.ensures.rules c.ranges.id.fits (omega (arith, c.if-count-gt-MAX_NODES.false, c.count_with-count.ensures)) in
     let s = snapshot_built h built date volume id mark in
     let k = c.join.new.self in
     let ps = c.in_ok-joined.joined.put.items in
@@ -175,7 +175,7 @@ returns-in-Ok-clause-state g c told =
     let bytes = (disk Store (now l0)).bytes in
     let new = (disk Store (now l1)).bytes in
     let are = c.puts_grow.ensures.completed h built date volume id mark (records_after h built date volume id mark) bytes may grow in
-    some_holds h.running date (λ d. store_on c.commit_joined.new.self new ≡ completed h built d volume id mark bytes) runs (state_after h built date volume id mark may k ps is puts c.commit_joined.new.self c.in-Ok.ensures.same c.in-Ok.ensures.records bytes new are (c.in-Ok.ensures.data told))
+    some_holds h.running date (λ d. store_on c.commit_joined.new.self new ≡ store_completed h built d volume id mark bytes) runs (state_after h built date volume id mark may k ps is puts c.commit_joined.new.self c.in-Ok.ensures.same c.in-Ok.ensures.records bytes new are (c.in-Ok.ensures.data told))
 
 pub returns-in-Ok-clause-whole : goal.returns-in-Ok-clause-whole
 returns-in-Ok-clause-whole g c =
@@ -186,7 +186,7 @@ returns-in-Ok-clause-whole g c =
     let id = c.args.id in
     let mark = c.args.mark.now in
     let runs : h.running ≡ Some date = sym c.running.ensures ∙ c.in-Some.is in
-    let may : MayComplete h built date volume id mark = may_complete h built date volume id mark c.requires.whole c.requires.built c.requires.mark runs c.in_ok-same_name.ensures.rules c.ranges.id.fits (omega (arith, c.if-count-gt-MOST_NODES.false, c.count_with-count.ensures)) in
+    let may : MayComplete h built date volume id mark = may_complete h built date volume id mark c.requires.whole c.requires.built c.requires.mark runs c.in_ok-same_name.ensures.rules c.ranges.id.fits (omega (arith, c.if-count-gt-MAX_NODES.false, c.count_with-count.ensures)) in
     let s = snapshot_built h built date volume id mark in
     let k = c.join.new.self in
     let ps = c.in_ok-joined.joined.put.items in
@@ -205,7 +205,7 @@ returns-in-Ok-clause-done g c =
     let id = c.args.id in
     let mark = c.args.mark.now in
     let runs : h.running ≡ Some date = sym c.running.ensures ∙ c.in-Some.is in
-    let may : MayComplete h built date volume id mark = may_complete h built date volume id mark c.requires.whole c.requires.built c.requires.mark runs c.in_ok-same_name.ensures.rules c.ranges.id.fits (omega (arith, c.if-count-gt-MOST_NODES.false, c.count_with-count.ensures)) in
+    let may : MayComplete h built date volume id mark = may_complete h built date volume id mark c.requires.whole c.requires.built c.requires.mark runs c.in_ok-same_name.ensures.rules c.ranges.id.fits (omega (arith, c.if-count-gt-MAX_NODES.false, c.count_with-count.ensures)) in
     let s = snapshot_built h built date volume id mark in
     let k = c.join.new.self in
     let ps = c.in_ok-joined.joined.put.items in
@@ -224,7 +224,7 @@ returns-in-Err-Fault-clause-any_moment g c told =
     let id = c.args.id in
     let mark = c.args.mark.now in
     let runs : h.running ≡ Some date = sym c.running.ensures ∙ c.in-Some.is in
-    let may : MayComplete h built date volume id mark = may_complete h built date volume id mark c.requires.whole c.requires.built c.requires.mark runs c.in_ok-same_name.ensures.rules c.ranges.id.fits (omega (arith, c.if-count-gt-MOST_NODES.false, c.count_with-count.ensures)) in
+    let may : MayComplete h built date volume id mark = may_complete h built date volume id mark c.requires.whole c.requires.built c.requires.mark runs c.in_ok-same_name.ensures.rules c.ranges.id.fits (omega (arith, c.if-count-gt-MAX_NODES.false, c.count_with-count.ensures)) in
     let s = snapshot_built h built date volume id mark in
     let k = c.join.new.self in
     let ps = c.in_ok-joined.joined.put.items in
@@ -238,7 +238,7 @@ returns-in-Err-Fault-clause-any_moment g c told =
     let bytes = (disk Store (now l0)).bytes in
     let none = not_refused h built date volume id mark may k ps is puts need (c.in-Err-Fault.ensures.tried (ap (λ e. Err e) c.in-Err-Fault.field-0-is)) in
     let stored = c.puts_grow.ensures.stored h built date volume id mark (records_after h built date volume id mark) bytes may grow in
-    some_holds h.running date (λ d. Runs Store (LeavesStore (stored_on h bytes) (after_complete h built d volume id mark bytes)) l0 l1) runs (run_completed h built date volume id mark may k ps is puts bytes l0 l1 none stored (c.in-Err-Fault.ensures.any_moment told))
+    some_holds h.running date (λ d. Runs Store (LeavesStore (store_stored_on h bytes) (after_complete h built d volume id mark bytes)) l0 l1) runs (run_completed h built date volume id mark may k ps is puts bytes l0 l1 none stored (c.in-Err-Fault.ensures.any_moment told))
 
 pub returns-in_ok-part-in-Err-Full-clause-refused : goal.returns-in_ok-part-in-Err-Full-clause-refused
 returns-in_ok-part-in-Err-Full-clause-refused g c =
@@ -249,7 +249,7 @@ returns-in_ok-part-in-Err-Full-clause-refused g c =
     let id = c.args.id in
     let mark = c.args.mark.now in
     let runs : h.running ≡ Some date = sym c.running.ensures ∙ c.in-Some.is in
-    let may : MayComplete h built date volume id mark = may_complete h built date volume id mark c.requires.whole c.requires.built c.requires.mark runs c.in_ok-same_name.ensures.rules c.ranges.id.fits (omega (arith, c.if-count-gt-MOST_NODES.false, c.count_with-count.ensures)) in
+    let may : MayComplete h built date volume id mark = may_complete h built date volume id mark c.requires.whole c.requires.built c.requires.mark runs c.in_ok-same_name.ensures.rules c.ranges.id.fits (omega (arith, c.if-count-gt-MAX_NODES.false, c.count_with-count.ensures)) in
     let s = snapshot_built h built date volume id mark in
     let k = c.join.new.self in
     let ps = c.in_ok-joined.joined.put.items in
@@ -268,7 +268,7 @@ returns-in_ok-part-in-Err-Full-clause-err g c =
     let id = c.args.id in
     let mark = c.args.mark.now in
     let runs : h.running ≡ Some date = sym c.running.ensures ∙ c.in-Some.is in
-    let may : MayComplete h built date volume id mark = may_complete h built date volume id mark c.requires.whole c.requires.built c.requires.mark runs c.in_ok-same_name.ensures.rules c.ranges.id.fits (omega (arith, c.if-count-gt-MOST_NODES.false, c.count_with-count.ensures)) in
+    let may : MayComplete h built date volume id mark = may_complete h built date volume id mark c.requires.whole c.requires.built c.requires.mark runs c.in_ok-same_name.ensures.rules c.ranges.id.fits (omega (arith, c.if-count-gt-MAX_NODES.false, c.count_with-count.ensures)) in
     let s = snapshot_built h built date volume id mark in
     let k = c.join.new.self in
     let ps = c.in_ok-joined.joined.put.items in

@@ -13,10 +13,10 @@ use Rattle.tm_world.specs.declared.world.Side.TheVariants.{Store}
 use Rattle.tm_world.proofs.Going.{Runs-none}
 use Rattle.tm_store_records.specs.Room.{store_blocks}
 use Rattle.tm_store_records.specs.States.{LeavesOneStore}
-use Rattle.tm_store_records.specs.Held.{Held, IsWhole, store_on, stored_on}
+use Rattle.tm_store_records.specs.Held.{Held, IsWhole, store_on, store_stored_on}
 use Rattle.tm_store_records.proofs.Retagging.{same_store}
 use Rattle.tm_store.specs.contracts.store.Store.{the_view}
-use Rattle.tm_store.specs.Answers.{IsFull}
+use Rattle.tm_store.specs.Answers.{IsFullRefusal}
 use Rattle.tm_store.proofs.Staging.{as_before, full_other, memory_other, stage_run, staged_whole, used_before}
 use Rattle.tm_store.proofs.store.Store.stage_file.Goals as goal
 
@@ -29,7 +29,7 @@ returns-in-Err-Fault-clause-any_moment g c told =
     let whole : IsWhole h = subst IsWhole (sym c.self.view_is) c.requires.whole in
     let l0 = g.W.World.log c.args.world.now in
     let l1 = g.W.World.log c.stage.new.world in
-    subst (λ (k : Held). Runs Store (LeavesOneStore (stored_on k (disk Store (now l0)).bytes)) l0 l1) c.self.view_is (stage_run h whole l0 l1 (c.in-Err-Fault.ensures.any_moment told))
+    subst (λ (k : Held). Runs Store (LeavesOneStore (store_stored_on k (disk Store (now l0)).bytes)) l0 l1) c.self.view_is (stage_run h whole l0 l1 (c.in-Err-Fault.ensures.any_moment told))
 
 pub returns-clause-any_moment : goal.returns-clause-any_moment
 returns-clause-any_moment g c told =
@@ -37,7 +37,7 @@ returns-clause-any_moment g c told =
     let whole : IsWhole h = subst IsWhole (sym c.self.view_is) c.requires.whole in
     let l0 = g.W.World.log c.args.world.now in
     let l1 = g.W.World.log c.stage.new.world in
-    subst (λ (k : Held). Runs Store (LeavesOneStore (stored_on k (disk Store (now l0)).bytes)) l0 l1) c.self.view_is (stage_run h whole l0 l1 (c.in-Ok.ensures.any_moment told))
+    subst (λ (k : Held). Runs Store (LeavesOneStore (store_stored_on k (disk Store (now l0)).bytes)) l0 l1) c.self.view_is (stage_run h whole l0 l1 (c.in-Ok.ensures.any_moment told))
 
 pub returns-clause-whole : goal.returns-clause-whole
 returns-clause-whole g c =
@@ -69,7 +69,7 @@ returns-in-Err-Full-clause-any_moment g c told =
     let whole : IsWhole h = subst IsWhole (sym c.self.view_is) c.requires.whole in
     let l0 = g.W.World.log c.args.world.now in
     let l1 = g.W.World.log c.stage.new.world in
-    subst (λ (k : Held). Runs Store (LeavesOneStore (stored_on k (disk Store (now l0)).bytes)) l0 l1) c.self.view_is (stage_run h whole l0 l1 (c.in-Err-Full.ensures.any_moment told))
+    subst (λ (k : Held). Runs Store (LeavesOneStore (store_stored_on k (disk Store (now l0)).bytes)) l0 l1) c.self.view_is (stage_run h whole l0 l1 (c.in-Err-Full.ensures.any_moment told))
 
 pub returns-in-Err-Full-clause-stands : goal.returns-in-Err-Full-clause-stands
 returns-in-Err-Full-clause-stands g c told =
@@ -113,7 +113,7 @@ returns-in-Err-Full-clause-refused g c =
     let need = blob_len (length c.args.bytes.now) in
     let law : table_len h.image.records ≡ store_blocks h.machine h.snapshots h.nodes = c.table_is_told.ensures h whole in
     let full = c.in-Err-Full.ensures.full c.in-Err-Full.need c.in-Err-Full.free (ap (λ e. Err e) c.in-Err-Full.field-0-is) in
-    subst (λ (q : Held). IsFull (need + store_blocks q.machine q.snapshots q.nodes) (free_of q.image) (Full c.in-Err-Full.need c.in-Err-Full.free)) c.self.view_is
+    subst (λ (q : Held). IsFullRefusal (need + store_blocks q.machine q.snapshots q.nodes) (free_of q.image) (Full c.in-Err-Full.need c.in-Err-Full.free)) c.self.view_is
     (full.2 ∙ ap (λ n. need + n) law, full.1, omega (arith, full.0, full.1, full.2, law))
 
 pub returns-in-Err-Memory-clause-any_moment : goal.returns-in-Err-Memory-clause-any_moment
@@ -122,7 +122,7 @@ returns-in-Err-Memory-clause-any_moment g c told =
     let whole : IsWhole h = subst IsWhole (sym c.self.view_is) c.requires.whole in
     let l0 = g.W.World.log c.args.world.now in
     let l1 = g.W.World.log c.stage.new.world in
-    subst (λ (k : Held). Runs Store (LeavesOneStore (stored_on k (disk Store (now l0)).bytes)) l0 l1) c.self.view_is (stage_run h whole l0 l1 (c.in-Err-Memory.ensures.any_moment told))
+    subst (λ (k : Held). Runs Store (LeavesOneStore (store_stored_on k (disk Store (now l0)).bytes)) l0 l1) c.self.view_is (stage_run h whole l0 l1 (c.in-Err-Memory.ensures.any_moment told))
 
 pub returns-in-Err-Memory-clause-stands : goal.returns-in-Err-Memory-clause-stands
 returns-in-Err-Memory-clause-stands g c told =

@@ -1,7 +1,7 @@
 use Rattle.std.proofs.Common.{cond, subst, arith}
 use Rattle.tm_volume.specs.Seen.{Seen, items_on}
-use Rattle.tm_volume.specs.Spots.{IsUnused}
-use Rattle.tm_volume.proofs.Spotting.{unused}
+use Rattle.tm_volume.specs.FreeNumbers.{IsUnused}
+use Rattle.tm_volume.proofs.Counting.{unused}
 use Rattle.tm_volume.proofs.volume.Volume.free_number.Goals as goal
 
 pub returns-then-is_unused-clause-some : goal.returns-then-is_unused-clause-some

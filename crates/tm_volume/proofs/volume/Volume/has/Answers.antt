@@ -1,7 +1,7 @@
 use Rattle.std.proofs.Common.{sym}
 use Rattle.tm_volume.specs.Seen.{items_on, tree_on}
 use Rattle.tm_volume.proofs.Finding.{on_shelf, are_on}
-use Rattle.tm_volume.proofs.Spotting.{nothing_at}
+use Rattle.tm_volume.proofs.Counting.{nothing_at}
 use Rattle.tm_volume.proofs.volume.Volume.has.Goals as goal
 
 pub returns-in-Err : goal.returns-in-Err

@@ -4,7 +4,7 @@ use Rattle.tm_records.specs.Records.{at}
 use Rattle.tm_volume_records.specs.Records.{journal_key}
 use Rattle.tm_volume_records.specs.Rules.{IsGoodVolume}
 use Rattle.tm_volume.specs.Seen.{Seen, entries_on, tree_on}
-use Rattle.tm_volume.proofs.Spotting.{known_on, counted, one_journal, no_journal}
+use Rattle.tm_volume.proofs.Counting.{known_on, counted, one_journal, no_journal}
 use Rattle.tm_volume.proofs.volume.Volume.item_count.Goals as goal
 use Rattle.tm_volume.proofs.volume.Volume.item_count.Goals.{in-Some, in-None}
 

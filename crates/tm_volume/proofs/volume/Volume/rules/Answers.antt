@@ -2,7 +2,7 @@ use Rattle.std.proofs.Common.{◌≡◌, ◌+◌, [], cond, sym, subst}
 use Rattle.tm_image.specs.Reads.{data_len}
 use Rattle.tm_image.specs.Room.{free_of, table_len}
 use Rattle.tm_volume.specs.Seen.{Seen, IsReady}
-use Rattle.tm_volume.proofs.Knowing.{free_here}
+use Rattle.tm_volume.proofs.Rooms.{free_here}
 use Rattle.tm_volume.proofs.volume.Volume.rules.Goals as goal
 
 pub returns-clause-room : goal.returns-clause-room

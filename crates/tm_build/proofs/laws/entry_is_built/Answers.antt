@@ -1,5 +1,0 @@
-use Rattle.tm_build.proofs.Finishes.{entry_is_built}
-use Rattle.tm_build.proofs.laws.entry_is_built.Goals as goal
-
-pub returns : goal.returns
-returns c = entry_is_built

@@ -1,5 +1,0 @@
-use Rattle.tm_build.proofs.Finishes.{folder_is_made}
-use Rattle.tm_build.proofs.laws.folder_is_made.Goals as goal
-
-pub returns : goal.returns
-returns c = folder_is_made

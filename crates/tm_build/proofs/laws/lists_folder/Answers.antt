@@ -1,5 +1,0 @@
-use Rattle.tm_build.proofs.Naming.{lists_folder}
-use Rattle.tm_build.proofs.laws.lists_folder.Goals as goal
-
-pub returns : goal.returns
-returns c = lists_folder

@@ -1,5 +1,0 @@
-use Rattle.tm_build.proofs.Finishes.{none_are_new}
-use Rattle.tm_build.proofs.laws.none_are_new.Goals as goal
-
-pub returns : goal.returns
-returns c = none_are_new

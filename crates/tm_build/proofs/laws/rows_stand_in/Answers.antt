@@ -1,5 +1,0 @@
-use Rattle.tm_build.proofs.Naming.{rows_stand_in}
-use Rattle.tm_build.proofs.laws.rows_stand_in.Goals as goal
-
-pub returns : goal.returns
-returns c = rows_stand_in

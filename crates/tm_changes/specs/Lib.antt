@@ -1,0 +1,14 @@
+pub mod Fitting
+pub mod Changes
+pub mod Answers
+pub mod Placing
+pub mod Destinations
+pub mod Plans
+pub mod Removals
+pub mod Creations
+pub mod Shifts
+pub mod Depths
+pub mod Attributes
+pub mod Targets
+pub mod Writes
+pub mod Fixings

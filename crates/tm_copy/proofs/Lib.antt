@@ -1,0 +1,12 @@
+pub mod Shared
+pub mod Ways
+pub mod Copied
+pub mod Appended
+pub mod Naming
+pub mod BaseNodes
+pub mod Among
+pub mod Makes
+pub mod Choices
+pub mod Finishes
+pub mod Making
+pub mod Telling

@@ -1,0 +1,5 @@
+use Rattle.tm_copy.proofs.Finishes.{leaf_is_made}
+use Rattle.tm_copy.proofs.laws.leaf_is_made.Goals as goal
+
+pub returns : goal.returns
+returns c = leaf_is_made

@@ -1,0 +1,12 @@
+pub mod Paging
+pub mod Cutting
+pub mod Planning
+pub mod Laying
+pub mod Placing
+pub mod Texts
+pub mod PlanFacts
+pub mod Writing
+pub mod Staying
+pub mod Reading
+pub mod Directories
+pub mod Giving

@@ -1,0 +1,12 @@
+mod Spanning
+mod Stretches
+mod Changing
+mod Encoding
+mod Keyed
+mod Finding
+mod Heading
+mod Touching
+mod Going
+mod Leaving
+mod Holding
+mod Meaning

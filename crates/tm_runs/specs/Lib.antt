@@ -1,0 +1,4 @@
+pub mod Marks
+pub mod Changes
+pub mod Touched
+pub mod After

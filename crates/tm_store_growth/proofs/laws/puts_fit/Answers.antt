@@ -1,5 +1,0 @@
-use Rattle.tm_store_growth.proofs.Fitting.{are_puts}
-use Rattle.tm_store_growth.proofs.laws.puts_fit.Goals as goal
-
-pub returns : goal.returns
-returns c = λ h built date volume id mark may. are_puts h built date volume id mark may c.spellings_are_found.ensures.nodes

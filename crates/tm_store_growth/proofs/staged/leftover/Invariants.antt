@@ -1,7 +1,0 @@
-use Rattle.std.proofs.Common.{◌≡◌, ◌==◌, take, filter, not}
-use Rattle.std.specs.List.{list_any}
-use Rattle.tm_store_growth.specs.Puts.{built_blocks}
-use Rattle.tm_store_growth.proofs.staged.leftover.Given as goal
-
-abbrev pub invariant-loop-block : goal.invariant-loop-block
-invariant-loop-block l = l.left.items ≡ filter (λ b. not (list_any (λ x. x == b) (built_blocks l.blobs))) (take l.block-index l.staged)
