@@ -1,5 +1,5 @@
 -- The trees of the store with what was built, whatever the files are read from.
-use Rattle.std.proofs.Common.{suc, ◌≡◌, ℕ, ◌≤◌, ◌||◌, Bool, true, false, cond, Option, Some, is_some, List, [], ◌∷◌, ◌++◌, map, nat_eq, refl, sym, ap, ◌∙◌, arith}
+use Rattle.std.proofs.Common.{suc, ◌≡◌, ℕ, ◌*◌, ◌≤◌, ◌||◌, Bool, true, false, cond, Option, Some, is_some, List, [], ◌∷◌, ◌++◌, map, nat_eq, refl, sym, ap, ◌∙◌, arith}
 use Rattle.std.specs.Prelude.{nat_lt}
 use Rattle.std.specs.Option.{option_map, unwrap_or}
 use Rattle.std.specs.Set.{is_member}
@@ -7,6 +7,7 @@ use Rattle.std.specs.Map.{lookup}
 use Rattle.std.specs.Ordering.{nat_cmp}
 use Rattle.std.specs.BTreeMap.{is_at}
 use Rattle.std.proofs.lemmas.Bool.Decides.{nat_tests}
+use Rattle.tm_base.specs.Limits.{max_nodes}
 use Rattle.tm_base.proofs.Facts.{some_is}
 use Rattle.tm_tree.specs.declared.rows.Mark.{Mark}
 use Rattle.tm_tree.specs.declared.node.NodeRow.{NodeRow}
@@ -38,7 +39,7 @@ map_push f (x ∷ xs) y = ap (λ ys. f x ∷ ys) (map_push f xs y)
 abbrev snapshot_with : Snapshot → LabelledTree → StoredSnapshot
 snapshot_with s tree = record { date = s.date; volume = s.volume; id = s.id; generation = s.mark.generation; cursor = s.mark.cursor; tree = tree }
 
-module _ (h : Held) (built : Built) (whole : IsWhole h) (is_built : IsBuilt h built) (few : count_after h built ≤ 524288) (found : NodesAreFound) (bytes : ℕ → List ℕ) where
+module _ (h : Held) (built : Built) (whole : IsWhole h) (is_built : IsBuilt h built) (few : count_after h built ≤ 2 * max_nodes) (found : NodesAreFound) (bytes : ℕ → List ℕ) where
   abbrev g : Nodes
   g = h.nodes
 

@@ -1,5 +1,6 @@
 -- What the lemmas on a finished backup are over: the store before, what was built, and what is known of them.
-use Rattle.std.proofs.Common.{ℕ, ◌^◌, ◌≤◌, List}
+use Rattle.std.proofs.Common.{ℕ, ◌*◌, ◌^◌, ◌≤◌, List}
+use Rattle.tm_base.specs.Limits.{max_nodes}
 use Rattle.tm_tree.specs.declared.rows.Mark.{Mark}
 use Rattle.tm_records.specs.Records.{Records}
 use Rattle.tm_graph.specs.declared.built.Built.{Built}
@@ -20,7 +21,7 @@ pub record Joining : Type 0 where
   pub built : Built
   pub is_built : IsBuilt h built
   pub old : IsOld h.nodes h.snapshots h.number
-  pub few : count_after h built ≤ 524288
+  pub few : count_after h built ≤ 2 * max_nodes
   pub most : h.number ≤ 2 ^ 40
 
 -- a backup may finish with what was built

@@ -5,6 +5,7 @@ use Rattle.std.specs.List.{All, AllByRecursion, sum_by}
 use Rattle.std.specs.Map.{values_of}
 use Rattle.std.specs.Option.{option_map, unwrap_or, IsSome}
 use Rattle.std.proofs.lemmas.List.Sums.{sum_by-append}
+use Rattle.tm_base.specs.Limits.{max_nodes}
 use Rattle.tm_base.proofs.Facts.{some_there}
 use Rattle.tm_world.specs.declared.bytes.Blob.{Blob}
 use Rattle.tm_chain.specs.Blob.{blob_len}
@@ -74,7 +75,7 @@ module _ (f : Finishing) where
   number_low : (n : ℕ) (row : NodeRow) → node after n ≡ Some row → n ≤ 2 ^ 62
   number_low n row e = (is_graph (joining f)).low n (ap (λ (o : Option NodeRow). is_some o) e)
 
-  entries_few : (n : ℕ) (row : NodeRow) → node after n ≡ Some row → length (entries_of row) ≤ 262144
+  entries_few : (n : ℕ) (row : NodeRow) → node after n ≡ Some row → length (entries_of row) ≤ max_nodes
   entries_few n row e =
       let store = is_store (joining f) in
       let few = few_entries after (entries_of row)

@@ -6,6 +6,7 @@ use Rattle.std.specs.Set.{is_member}
 use Rattle.std.proofs.lemmas.Bool.{cases_lt, cases_eq}
 use Rattle.std.proofs.lemmas.Bool.Decides.{nat_tests}
 use Rattle.std.proofs.lemmas.Option.{slice_get_within}
+use Rattle.tm_base.specs.Limits.{max_names, max_nodes}
 use Rattle.tm_base.specs.Paths.{Names}
 use Rattle.tm_tree.specs.declared.node.NodeRow.{NodeRow}
 use Rattle.tm_records.specs.Records.{at}
@@ -72,7 +73,7 @@ module _ (f : Finishing) where
   found_way : (p : Names) (n : ℕ) → is_some (node after n) ≡ true → (at : NodeStandsAt after (roots ++ root ∷ []) p n) → number_at after at.root p ≡ Some n
   found_way p n t at = leads_number after p at.root n t at.leads
 
-  near : (p : Names) (n : ℕ) → is_some (node after n) ≡ true → NodeStandsAt after (roots ++ root ∷ []) p n → length p ≤ 64
+  near : (p : Names) (n : ℕ) → is_some (node after n) ≡ true → NodeStandsAt after (roots ++ root ∷ []) p n → length p ≤ max_names
   near p n t at = ⊎_elim
       (λ (was_root : is_member nat_eq roots at.root ≡ true).
       let store = (old f).store in
@@ -92,7 +93,7 @@ module _ (f : Finishing) where
   -- what is told of old and new nodes apart
   record Bounds (n : ℕ) (row : NodeRow) : Type 0 where
     pub least : 1 ≤ n
-    pub most : n ≤ 262144 * h.number
+    pub most : n ≤ max_nodes * h.number
     pub label_least : 1 ≤ row.label
     pub label_most : row.label < h.number + 1
 
@@ -118,7 +119,7 @@ module _ (f : Finishing) where
       record { least = least; most = omega (arith, most); label_least = omega (arith, label, label_least); label_most = omega (arith, label, label_most) })
       (cases_lt last n)
 
-  few_after : (place : ℕ) (e : ℕ × NodeRow) → slice_get after place ≡ Some e → place < 262144
+  few_after : (place : ℕ) (e : ℕ × NodeRow) → slice_get after place ≡ Some e → place < max_nodes
   few_after place e is = let within = place_within after place e is in let few = may.few in omega (arith, within, few, size (g ++ new), length-append g new)
     where
       size : (nodes : Nodes) → length {A = ℕ × NodeRow} (map (λ e. (e.0, relinked g new root e.0 e.1)) nodes) ≡ length nodes

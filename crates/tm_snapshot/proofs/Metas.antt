@@ -8,6 +8,7 @@ use Rattle.std.proofs.lemmas.Cmp.{nat_eq_equiv}
 use Rattle.std.proofs.lemmas.List.Sums.{sum_by-cons}
 use Rattle.std.proofs.lemmas.List.Concat.{length-flat_map}
 use Rattle.std.proofs.lemmas.Map.Steps.{length-le_from_keys}
+use Rattle.tm_base.specs.Limits.{max_nodes}
 use Rattle.tm_codec.specs.Fields.{u8_text, u16_text, u32_text, u64_text, u128_text, short_text, long_text}
 use Rattle.tm_codec.proofs.Fields.{length-u8_text, length-u16_text, length-u32_text, length-u64_text, length-u128_text, length-short_text, length-long_text}
 use Rattle.tm_tree.specs.declared.attrs.Attrs.{Attrs}
@@ -38,13 +39,13 @@ child_len : (c : Child) → IsChild c → length (child_text c) ≤ 264
 unfolding child_text
 child_len c is = omega (arith, length-append (short_text c.name) (u64_text c.node), length-short_text c.name, length-u64_text c.node, is.name.short)
 
-entries_len : (es : List Child) → All IsChild es → length es ≤ 262144 → length (entries_text es) ≤ 2 ^ 27
+entries_len : (es : List Child) → All IsChild es → length es ≤ max_nodes → length (entries_text es) ≤ 2 ^ 27
 unfolding entries_text
 entries_len es each few =
     let all = sum_bounded (λ (c : Child). length (child_text c)) 264 IsChild child_len es each in
     omega (arith, length-append (u32_text (length es)) (flat_map child_text es), length-u32_text (length es), length-flat_map child_text es, all, few)
 
-tail_len : (b : NodeBody) → IsNodeTail b → length (body_entries b) ≤ 262144 → length (node_tail b) ≤ 2 ^ 27
+tail_len : (b : NodeBody) → IsNodeTail b → length (body_entries b) ≤ max_nodes → length (node_tail b) ≤ 2 ^ 27
 tail_len (Folder attrs entries) tail few = entries_len entries tail.each few
 tail_len (Leaf (File attrs stamp size)) tail few = omega (arith, length-u64_text stamp)
 tail_len (Leaf (Link attrs stamp target)) tail few = omega (arith, length-append (u64_text stamp) (long_text target), length-u64_text stamp, length-long_text target, tail.1.short)
@@ -68,7 +69,7 @@ parts_len row =
       length-u64_text row.links,
     )
 
-pub node_meta_short : (row : NodeRow) → IsNodeRow row → length (entries_of row) ≤ 262144 → length (node_text row) < 2 ^ 32
+pub node_meta_short : (row : NodeRow) → IsNodeRow row → length (entries_of row) ≤ max_nodes → length (node_text row) < 2 ^ 32
 node_meta_short row is few = omega (arith, parts_len row, attrs_length (node_attrs row.body) is.attrs, tail_len row.body is.tail few)
 
 -- links are no part of it

@@ -4,6 +4,7 @@ use Rattle.std.specs.Prelude.{slice_get}
 use Rattle.std.specs.Map.{values_of}
 use Rattle.std.specs.Option.{option_map, unwrap_or}
 use Rattle.std.proofs.lemmas.List.Sums.{sum_by-cons, count_by-le-length}
+use Rattle.tm_base.specs.Limits.{max_nodes, max_snapshots}
 use Rattle.tm_tree.specs.declared.node.NodeRow.{NodeRow}
 use Rattle.tm_records.specs.declared.record.Record.{Record}
 use Rattle.tm_graph.specs.Nodes.{Nodes, node, entries_of, named, links_of, row_names, greatest, key_of}
@@ -19,7 +20,7 @@ use Rattle.tm_store_records.proofs.Graphing.{AllGood, kept}
 use Rattle.tm_store_records.proofs.Linking.{AllSnapshotsGood, store_is, short_list}
 
 -- twice as many nodes as there may be are few enough for what is only planned
-pub wide : {n : ℕ} → n ≤ 262144 → n ≤ 524288
+pub wide : {n : ℕ} → n ≤ max_nodes → n ≤ 2 * max_nodes
 wide few = omega (arith, few)
 
 abbrev pub AreShort : Nodes → Type 0
@@ -53,18 +54,18 @@ old_is h whole found =
 
 module _ (g : Nodes) (snapshots : List Snapshot) (next : ℕ) (old : IsOld g snapshots next) where
   -- numbers of nodes and links are low
-  pub greatest_low : greatest g ≤ 262144 * (next - 1)
+  pub greatest_low : greatest g ≤ max_nodes * (next - 1)
   greatest_low = by_last (slice_get g (length g - 1)) refl
     where
-      by_last : (o : Option (ℕ × NodeRow)) → slice_get g (length g - 1) ≡ o → key_of o ≤ 262144 * (next - 1)
+      by_last : (o : Option (ℕ × NodeRow)) → slice_get g (length g - 1) ≡ o → key_of o ≤ max_nodes * (next - 1)
       by_last None e = omega arith
       by_last (Some e) is = (old.good (length g - 1) e is).most
 
-  pub few_nodes : length g ≤ 262144
-  few_nodes = short_list g 262144 (λ i e is. (old.good i e is).few)
+  pub few_nodes : length g ≤ max_nodes
+  few_nodes = short_list g max_nodes (λ i e is. (old.good i e is).few)
 
-  pub few_snapshots : length snapshots ≤ 1024
-  few_snapshots = short_list snapshots 1024 (λ i s is. (old.good_snapshots i s is).few)
+  pub few_snapshots : length snapshots ≤ max_snapshots
+  few_snapshots = short_list snapshots max_snapshots (λ i s is. (old.good_snapshots i s is).few)
 
   pub label_low : (n : ℕ) → is_some (node g n) ≡ true → label_of g n < next
   label_low n t = by_node (node g n) refl t

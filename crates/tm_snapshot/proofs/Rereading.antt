@@ -3,6 +3,7 @@ use Rattle.std.proofs.Common.{◌≡◌, ⊎_elim, ℕ, ◌^◌, ◌<◌, ◌≤
 use Rattle.std.specs.Prelude.{nat_le}
 use Rattle.std.specs.Option.{option_map, unwrap_or}
 use Rattle.std.proofs.lemmas.Bool.{cases_lt}
+use Rattle.tm_base.specs.Limits.{max_file_bytes}
 use Rattle.tm_world.specs.declared.bytes.Blob.{Blob}
 use Rattle.tm_chain.specs.Blob.{bytes_in}
 use Rattle.tm_tree.specs.declared.node.LeafRow.TheVariants.{File, Link}
@@ -40,9 +41,9 @@ use Rattle.tm_snapshot.proofs.Regrown.{NodesReadAgain, stands_after, sorted_afte
 zero_le : (n : ℕ) → nat_le 0 n ≡ true
 zero_le n = le_true 0 n (omega arith)
 
-file_fits : (body : NodeBody) (size : ℕ) → built_length body ≡ Some size → body_length body ≤ 16777216 → nat_le size (most_of body) ≡ true
+file_fits : (body : NodeBody) (size : ℕ) → built_length body ≡ Some size → body_length body ≤ max_file_bytes → nat_le size (most_of body) ≡ true
 file_fits (Folder attrs entries) size e low = absurd (cc e)
-file_fits (Leaf (File attrs stamp own)) size e low = let same : own ≡ size = cc in le_true size 16777216 (omega (arith, same, low))
+file_fits (Leaf (File attrs stamp own)) size e low = let same : own ≡ size = cc in le_true size max_file_bytes (omega (arith, same, low))
 file_fits (Leaf (Link attrs stamp target)) size e low = absurd (cc e)
 
 -- no bytes

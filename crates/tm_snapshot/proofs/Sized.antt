@@ -1,9 +1,10 @@
 -- The sizes of the store that a finished backup makes are told by what was built.
-use Rattle.std.proofs.Common.{◌≡◌, ⊎_elim, ℕ, ◌+◌, ◌≤◌, true, cond, Option, Some, None, is_some, List, [], ◌∷◌, ◌++◌, length, refl, sym, ap, ◌∙◌, arith, subst, length-append}
+use Rattle.std.proofs.Common.{◌≡◌, ⊎_elim, ℕ, ◌+◌, ◌*◌, ◌≤◌, true, cond, Option, Some, None, is_some, List, [], ◌∷◌, ◌++◌, length, refl, sym, ap, ◌∙◌, arith, subst, length-append}
 use Rattle.std.specs.Prelude.{nat_lt}
 use Rattle.std.specs.List.{sum_by}
 use Rattle.std.proofs.lemmas.List.{length-map}
 use Rattle.std.specs.Option.{option_map, option_and_then, unwrap_or}
+use Rattle.tm_base.specs.Limits.{max_nodes}
 use Rattle.tm_world.specs.declared.bytes.Blob.{Blob}
 use Rattle.tm_tree.specs.declared.rows.Mark.{Mark}
 use Rattle.tm_tree.specs.declared.node.LeafRow.TheVariants.{File, Link}
@@ -64,7 +65,7 @@ roots_push : (ss : List Snapshot) (s : Snapshot) → roots_of (ss ++ s ∷ []) �
 roots_push [] s = refl
 roots_push (x ∷ ss) s = ap (λ (rs : List ℕ). x.root ∷ rs) (roots_push ss s)
 
-module _ (h : Held) (built : Built) (whole : IsWhole h) (is_built : IsBuilt h built) (found : NodesAreFound) (most : length built.nodes ≤ 262144) where
+module _ (h : Held) (built : Built) (whole : IsWhole h) (is_built : IsBuilt h built) (found : NodesAreFound) (most : length built.nodes ≤ max_nodes) where
   abbrev g : Nodes
   g = h.nodes
 
@@ -80,7 +81,7 @@ module _ (h : Held) (built : Built) (whole : IsWhole h) (is_built : IsBuilt h bu
   old : IsOld h.nodes h.snapshots h.number
   old = old_is h whole found
 
-  few : count_after h built ≤ 524288
+  few : count_after h built ≤ 2 * max_nodes
   few = let many = few_nodes g h.snapshots h.number old in omega (arith, many, most)
 
   abbrev joins : Joining

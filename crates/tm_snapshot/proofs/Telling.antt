@@ -1,5 +1,5 @@
 -- The room that the commit of a finished backup needs is told by what was built.
-use Rattle.std.proofs.Common.{suc, ◌≡◌, ◌≢◌, ⊎_elim, ℕ, ◌+◌, ◌-◌, ◌/◌, ◌^◌, ◌<◌, ◌≤◌, Option, Some, None, List, [], ◌∷◌, ◌++◌, length, map, refl, sym, ap, ◌∙◌, arith, subst}
+use Rattle.std.proofs.Common.{suc, ◌≡◌, ◌≢◌, ⊎_elim, ℕ, ◌+◌, ◌-◌, ◌^◌, ◌<◌, ◌≤◌, Option, Some, None, List, [], ◌∷◌, ◌++◌, length, map, refl, sym, ap, ◌∙◌, arith, subst}
 use Rattle.std.specs.Prelude.{slice_get}
 use Rattle.std.specs.List.{All, AllByRecursion, sum_by}
 use Rattle.std.specs.Map.{values_of}
@@ -59,7 +59,7 @@ same_lens links (e ∷ nodes) =
     ∙ (λ i. same_node_len e.1 (links e.0) i + same_lens links nodes i)
     ∙ sym (sum_by-cons node_len e.1 (values_of nodes))
 
-no_blocks : 0 ≡ (0 + 4095) / 4096
+no_blocks : 0 ≡ blob_len 0
 no_blocks = refl
 
 module _ (f : Finishing) where
@@ -69,24 +69,24 @@ module _ (f : Finishing) where
   -- ---- each record can be spelled
 
   IsFull : Record → Type 0
-  IsFull r = length r.blocks ≡ (r.length + 4095) / 4096
+  IsFull r = length r.blocks ≡ blob_len r.length
 
   blob_full : (i : ℕ) (b : ℕ × Blob) → slice_get built.blobs i ≡ Some b → length b.1.blocks ≡ blob_len b.1.length
   blob_full i b is = all_at (λ (x : ℕ × Blob). length x.1.blocks ≡ blob_len x.1.length) built.blobs i b may.is_built.filled is
 
-  kept_full : (n : ℕ) (text : List ℕ) (o : Option Record) → at (node_key n) R ≡ o → length (put_record Kept text o).blocks ≡ ((put_record Kept text o).length + 4095) / 4096
+  kept_full : (n : ℕ) (text : List ℕ) (o : Option Record) → at (node_key n) R ≡ o → length (put_record Kept text o).blocks ≡ blob_len (put_record Kept text o).length
   kept_full n text None e = no_blocks
   kept_full n text (Some r) e = (value_at_key IsKept R (node_key n) r may.whole.sound.each e).many
 
-  new_full : (n : ℕ) (text : List ℕ) (o : Option Blob) (old : Option Record) → entry built.blobs n ≡ o → length (put_record (new_body o) text old).blocks ≡ ((put_record (new_body o) text old).length + 4095) / 4096
+  new_full : (n : ℕ) (text : List ℕ) (o : Option Blob) (old : Option Record) → entry built.blobs n ≡ o → length (put_record (new_body o) text old).blocks ≡ blob_len (put_record (new_body o) text old).length
   new_full n text None old e = no_blocks
   new_full n text (Some b) old e = let place = place_of built.blobs n b e in blob_full place.0 (n, b) place.1
 
-  node_full : (n : ℕ) (row : NodeRow) → length (own_record f n row).blocks ≡ ((own_record f n row).length + 4095) / 4096
+  node_full : (n : ℕ) (row : NodeRow) → length (own_record f n row).blocks ≡ blob_len (own_record f n row).length
   node_full n row = ⊎_elim
-      (λ (lt : last < n). subst (λ (b : Body). length (put_record b (node_text row) (at (node_key n) R)).blocks ≡ ((put_record b (node_text row) (at (node_key n) R)).length + 4095) / 4096)
+      (λ (lt : last < n). subst (λ (b : Body). length (put_record b (node_text row) (at (node_key n) R)).blocks ≡ blob_len (put_record b (node_text row) (at (node_key n) R)).length)
       (sym (body_new f n lt)) (new_full n (node_text row) (entry built.blobs n) (at (node_key n) R) refl))
-      (λ (le : n ≤ last). subst (λ (b : Body). length (put_record b (node_text row) (at (node_key n) R)).blocks ≡ ((put_record b (node_text row) (at (node_key n) R)).length + 4095) / 4096)
+      (λ (le : n ≤ last). subst (λ (b : Body). length (put_record b (node_text row) (at (node_key n) R)).blocks ≡ blob_len (put_record b (node_text row) (at (node_key n) R)).length)
       (sym (body_old f n le)) (kept_full n (node_text row) (at (node_key n) R) refl))
       (cases_lt last n)
 

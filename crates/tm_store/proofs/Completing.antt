@@ -4,6 +4,7 @@ use Rattle.std.specs.Prelude.{nat_lt}
 use Rattle.std.specs.List.{All, list_any, sum_by}
 use Rattle.std.proofs.lemmas.List.Sums.{sum_by-cons}
 use Rattle.tm_base.specs.IsName.{IsName}
+use Rattle.tm_base.specs.Limits.{max_nodes}
 use Rattle.tm_base.specs.declared.refused.Refused.{Refused}
 use Rattle.tm_base.specs.declared.refused.Refused.TheVariants.{Full, TooMany}
 use Rattle.tm_blockmap.specs.Counts.{times}
@@ -55,13 +56,13 @@ pub all_hold : (o : Option ℕ) (P : ℕ → Type 0) → ((x : ℕ) → P x) →
 all_hold None P all = tt
 all_hold (Some x) P all = all x
 
-pub few_held : (h : Held) → IsWhole h → length h.nodes ≤ 262144
+pub few_held : (h : Held) → IsWhole h → length h.nodes ≤ max_nodes
 few_held h whole =
-    let few : length (nodes_in (heads_of h.image.records)) ≤ 262144 = short_list (nodes_in (heads_of h.image.records)) 262144 (λ i e is. ((whole.good (node_key e.0)).node_rules i e is refl).few) in
+    let few : length (nodes_in (heads_of h.image.records)) ≤ max_nodes = short_list (nodes_in (heads_of h.image.records)) max_nodes (λ i e is. ((whole.good (node_key e.0)).node_rules i e is refl).few) in
     omega (arith, few, ap (λ (g : Nodes). length g) whole.nodes_are)
 
 -- what was asked of the call
-pub may_complete : (h : Held) (built : Built) (date : ℕ) (volume : List ℕ) (id : ℕ) (mark : Mark) → IsWhole h → IsBuilt h built → IsMark mark → h.running ≡ Some date → ∥ IsName volume ∥₁ → id < 2 ^ 128 → count_after h built ≤ 262144
+pub may_complete : (h : Held) (built : Built) (date : ℕ) (volume : List ℕ) (id : ℕ) (mark : Mark) → IsWhole h → IsBuilt h built → IsMark mark → h.running ≡ Some date → ∥ IsName volume ∥₁ → id < 2 ^ 128 → count_after h built ≤ max_nodes
     → MayComplete h built date volume id mark
 may_complete h built date volume id mark whole is_built is_mark runs name small few = record { whole = whole; runs = runs; is_built = is_built; is_mark = is_mark; name = name_had volume name; small = small; few = few }
 
@@ -118,7 +119,7 @@ module _ (h : Held) (built : Built) (date : ℕ) (volume : List ℕ) (id : ℕ) 
     not_refused fits =
         let free : free_of k.image ≡ free_of h.image = ap free_of same_image in
         let need = need_is in
-        let few = lt_false 262144 (count_after h built) may.few in
+        let few = lt_false max_nodes (count_after h built) may.few in
         let room = lt_false (free_of h.image) (need_after h built date volume id mark) (omega (arith, fits, free, need)) in
         ap (λ b. cond b (Some (TooMany (count_after h built))) no_room) few ∙ ap (λ b. cond b (Some (Full (need_after h built date volume id mark) (free_of h.image))) None) room
 
@@ -127,7 +128,7 @@ module _ (h : Held) (built : Built) (date : ℕ) (volume : List ℕ) (id : ℕ) 
     refused need free full =
         let frees : free ≡ free_of h.image = full.1 ∙ ap free_of same_image in
         let needs : need ≡ need_after h built date volume id mark = full.2 ∙ need_is in
-        let few = lt_false 262144 (count_after h built) may.few in
+        let few = lt_false max_nodes (count_after h built) may.few in
         let room = lt_true (free_of h.image) (need_after h built date volume id mark) (let less = full.0 in omega (arith, less, frees, needs)) in
         ap (λ b. cond b (Some (TooMany (count_after h built))) no_room) few ∙ ap (λ b. cond b (Some (Full (need_after h built date volume id mark) (free_of h.image))) None) room ∙ (λ i. Some (Full (sym needs i) (sym frees i)))
 

@@ -1,6 +1,7 @@
 -- Of the checks of a store's image one fails, and none of an image that reads as something.
 use Rattle.std.proofs.Common.{◌≡◌, ◌⊎◌, ⊎_elim, inl, inr, ℕ, ◌<◌, ◌≤◌, Option, Some, None, refl, sym, ◌∙◌, subst, arith}
 use Rattle.std.proofs.lemmas.Bool.{cases_lt}
+use Rattle.tm_base.specs.Limits.{max_blocks}
 use Rattle.tm_image.specs.Blank.{LacksMagic}
 use Rattle.tm_image.specs.Laws as image_laws
 use Rattle.tm_image.specs.Laws.{FailsOrLacks, OneFailure, OneReading, ReadsOrLacks}
@@ -42,7 +43,7 @@ least_once heads number place place2 f g = ⊎_elim
     (cases_lt place2 place))
     (cases_lt place place2)
 
-module _ (reading : OneReading) (image : Image) (few : image.count ≤ 262144) where
+module _ (reading : OneReading) (image : Image) (few : image.count ≤ max_blocks) where
   -- the key that is wrong, by other entries that the image stands for
   moved : (entries : Entries) (running : Option ℕ) (number place : ℕ) → FitsTag running number → ReadsAsTable Store entries (tag_of running number) image → ReadsAsBadStore image place
       → IsLeastBadKey (heads_in entries) number place

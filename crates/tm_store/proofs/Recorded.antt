@@ -5,6 +5,7 @@ use Rattle.std.specs.List.{cons_option}
 use Rattle.std.specs.Option.{option_map, unwrap_or}
 use Rattle.std.proofs.lemmas.Bool.{cases_eq}
 use Rattle.std.proofs.lemmas.Bool.Decides.{nat_tests}
+use Rattle.tm_base.specs.Limits.{max_file_bytes}
 use Rattle.tm_graph.specs.Nodes.{node}
 use Rattle.tm_graph.proofs.Same.{at-mapped}
 use Rattle.tm_identity.specs.Stored.{node_length, body_length}
@@ -95,14 +96,14 @@ size_kept head row is reads =
     let test : nat_le head.size (most_of row.body) ≡ true = sym (ap (λ o. unwrap_or (option_map (λ (row : NodeRow). nat_le head.size (most_of row.body)) o) false) is) ∙ reads in
     grind (arith, nat_tests)
 
-size_is : (size : ℕ) (row : NodeRow) (body : NodeBody) → row.body ≡ body → HasNodeSize size body → size ≤ most_of body → (size ≡ node_length row) × (size ≤ 16777216)
+size_is : (size : ℕ) (row : NodeRow) (body : NodeBody) → row.body ≡ body → HasNodeSize size body → size ≤ most_of body → (size ≡ node_length row) × (size ≤ max_file_bytes)
 size_is size row (Folder attrs entries) is has most = (sym (ap body_length is ∙ omega (arith, most)), omega (arith, most))
 size_is size row (Leaf (File attrs stamp length)) is has most = (sym has ∙ sym (ap body_length is), most)
 size_is size row (Leaf (Link attrs stamp target)) is has most = (sym (ap body_length is ∙ omega (arith, most)), omega (arith, most))
 
--- a record of a node has as many bytes as the node says, and no more than 16 MiB
+-- a record of a node has as many bytes as the node says, and no more than a file may have
 sized : NodesAreFound → (heads : RecordHeads) (n : ℕ) (row : NodeRow) → Sorted heads → ((key : ℕ) (head : RecordHead) → head_at key heads ≡ Some head → is_record key head ≡ true) → node (nodes_in heads) n ≡ Some row
-    → (head : RecordHead) × (head_at (node_key n) heads ≡ Some head) × (head.size ≡ node_length row) × (head.size ≤ 16777216)
+    → (head : RecordHead) × (head_at (node_key n) heads ≡ Some head) × (head.size ≡ node_length row) × (head.size ≤ max_file_bytes)
 sized law heads n row sorted each is =
     let has = head_found heads n row sorted is in
     let most = size_kept has.head row has.reads (reads_kept n has.head (each (node_key n) has.head has.is)) in
@@ -125,5 +126,5 @@ record_there law records n row sorted each is =
         let same : head_of r ≡ head = cc in
         (r, e, ap (λ (h : RecordHead). h.size) same ∙ size)
 
-pub small_node : NodesAreFound → (heads : RecordHeads) (n : ℕ) (row : NodeRow) → Sorted heads → ((key : ℕ) (head : RecordHead) → head_at key heads ≡ Some head → is_record key head ≡ true) → node (nodes_in heads) n ≡ Some row → node_length row ≤ 16777216
+pub small_node : NodesAreFound → (heads : RecordHeads) (n : ℕ) (row : NodeRow) → Sorted heads → ((key : ℕ) (head : RecordHead) → head_at key heads ≡ Some head → is_record key head ≡ true) → node (nodes_in heads) n ≡ Some row → node_length row ≤ max_file_bytes
 small_node law heads n row sorted each is = let found = sized law heads n row sorted each is in omega (arith, found.2, found.3)

@@ -4,6 +4,7 @@ use Rattle.std.specs.Prelude.{slice_get}
 use Rattle.std.specs.Map.{values_of}
 use Rattle.std.proofs.lemmas.Bool.{cases_lt}
 use Rattle.std.proofs.lemmas.List.Sums.{sum_by-cons}
+use Rattle.tm_base.specs.Limits.{max_file_bytes, max_nodes}
 use Rattle.tm_graph.specs.Nodes.{Nodes, node, stored_in, body_bytes}
 use Rattle.tm_identity.specs.Stored.{node_length, body_length}
 use Rattle.tm_tree.specs.declared.node.LeafRow.TheVariants.{File, Link}
@@ -31,7 +32,7 @@ at_index [] i lt = absurd (omega (arith, lt))
 at_index (x ∷ g) zero lt = (x, refl)
 at_index (x ∷ g) (suc i) lt = at_index g i (omega (arith, lt))
 
-sum_most : (g : Nodes) → ((i : ℕ) (e : ℕ × NodeRow) → slice_get g i ≡ Some e → node_length e.1 ≤ 16777216) → sum_by node_length (values_of g) ≤ 16777216 * length g
+sum_most : (g : Nodes) → ((i : ℕ) (e : ℕ × NodeRow) → slice_get g i ≡ Some e → node_length e.1 ≤ max_file_bytes) → sum_by node_length (values_of g) ≤ max_file_bytes * length g
 sum_most [] each = omega arith
 sum_most (e ∷ g) each =
     let one = each 0 e refl in
@@ -40,14 +41,14 @@ sum_most (e ∷ g) each =
 
 pub few_bytes : NodesAreFound → (h : Held) → IsWhole h → Sorted h.nodes → Sorted (heads_of h.image.records) → stored_in h.nodes < 2 ^ 64
 few_bytes law h whole sorted rising =
-    let few : length h.nodes ≤ 262144 = ⊎_elim
-    (λ (more : 262144 < length h.nodes). absurd (
-    let e = at_index h.nodes 262144 more in
-    let listed : slice_get (nodes_in (heads_of h.image.records)) 262144 ≡ Some e.0 = subst (λ (g : Nodes). slice_get g 262144 ≡ Some e.0) whole.nodes_are e.1 in
-    let low = ((whole.good (node_key e.0.0)).node_rules 262144 e.0 listed refl).few in
+    let few : length h.nodes ≤ max_nodes = ⊎_elim
+    (λ (more : max_nodes < length h.nodes). absurd (
+    let e = at_index h.nodes max_nodes more in
+    let listed : slice_get (nodes_in (heads_of h.image.records)) max_nodes ≡ Some e.0 = subst (λ (g : Nodes). slice_get g max_nodes ≡ Some e.0) whole.nodes_are e.1 in
+    let low = ((whole.good (node_key e.0.0)).node_rules max_nodes e.0 listed refl).few in
     omega (arith, low)))
-    (λ (le : length h.nodes ≤ 262144). le)
-    (cases_lt 262144 (length h.nodes)) in
+    (λ (le : length h.nodes ≤ max_nodes). le)
+    (cases_lt max_nodes (length h.nodes)) in
     let sum = sum_most h.nodes (λ i e is.
     small_node law (heads_of h.image.records) e.0 e.1 rising (λ key head there. (whole.good key).reads head there)
     (subst (λ (g : Nodes). node g e.0 ≡ Some e.1) whole.nodes_are (at_place h.nodes i e sorted is))) in

@@ -5,6 +5,7 @@ use Rattle.std.specs.Option.{option_map, unwrap_or}
 use Rattle.std.proofs.lemmas.Bool.{cases_lt}
 use Rattle.std.proofs.lemmas.Bool.Decides.{nat_tests}
 use Rattle.std.proofs.lemmas.List.Sums.{sum_by-cons, count_by-le-length}
+use Rattle.tm_base.specs.Limits.{max_nodes, max_snapshots}
 use Rattle.tm_base.proofs.Facts.{some_there}
 use Rattle.tm_tree.specs.declared.node.NodeRow.{NodeRow}
 use Rattle.tm_graph.specs.Nodes.{Nodes, node, entries_of, names, times, named, links_of, row_names, IsGraph}
@@ -61,11 +62,11 @@ AllSnapshotsGood g snapshots number = (place : ℕ) (s : Snapshot) → slice_get
 
 module _ (g : Nodes) (snapshots : List Snapshot) (number : ℕ) (sorted : Sorted g) (good : AllGood g (roots_of snapshots) number) (good_snapshots : AllSnapshotsGood g snapshots number)
     (rise : AllRise g) (most : number ≤ 2 ^ 40) (short : (place : ℕ) (e : ℕ × NodeRow) → slice_get g place ≡ Some e → length (entries_of e.1) < 2 ^ 32) where
-  few_nodes : length g ≤ 262144
-  few_nodes = short_list g 262144 (λ i e is. (good i e is).few)
+  few_nodes : length g ≤ max_nodes
+  few_nodes = short_list g max_nodes (λ i e is. (good i e is).few)
 
-  few_snapshots : length snapshots ≤ 1024
-  few_snapshots = short_list snapshots 1024 (λ i s is. (good_snapshots i s is).few)
+  few_snapshots : length snapshots ≤ max_snapshots
+  few_snapshots = short_list snapshots max_snapshots (λ i s is. (good_snapshots i s is).few)
 
   each_few : (q : ℕ) (es : Nodes) → ((place : ℕ) (e : ℕ × NodeRow) → slice_get es place ≡ Some e → length (entries_of e.1) < 2 ^ 32) → named es q ≤ length es * 2 ^ 32
   each_few q [] h = omega arith
@@ -78,7 +79,7 @@ module _ (g : Nodes) (snapshots : List Snapshot) (number : ℕ) (sorted : Sorted
   named_few : (q : ℕ) → named g q ≤ 2 ^ 50
   named_few q = let few = each_few q g short in let long = few_nodes in omega (arith, few, long)
 
-  roots_few : (q : ℕ) → count_by (λ r. r == q) (roots_of snapshots) ≤ 1024
+  roots_few : (q : ℕ) → count_by (λ r. r == q) (roots_of snapshots) ≤ max_snapshots
   roots_few q = let few = count_by-le-length (λ r. r == q) (roots_of snapshots) in omega (arith, few, few_snapshots, length_roots snapshots)
     where
       length_roots : (ss : List Snapshot) → length (roots_of ss) ≡ length ss

@@ -2,6 +2,7 @@
 use Rattle.std.proofs.Common.{◌≡◌, ◌≢◌, ◌⊎◌, inl, inr, ⊎_elim, ℕ, ◌≤◌, ◌==◌, Bool, true, false, cond, Option, Some, None, List, length, slice_get, nat_eq, refl, sym, ap, ◌∙◌, arith, subst}
 use Rattle.std.proofs.lemmas.Bool.{cases_eq}
 use Rattle.std.proofs.lemmas.Bool.Decides.{nat_tests}
+use Rattle.tm_base.specs.Limits.{max_names}
 use Rattle.tm_base.specs.Paths.{Names}
 use Rattle.tm_graph.specs.Nodes.{Nodes}
 use Rattle.tm_store_records.specs.declared.locations.Location.{Location}
@@ -100,7 +101,7 @@ module _ (g : Nodes) (roots : List ℕ) (Came After : Names → ℕ → Type 0) 
   misplaced_put put misplaced = locations_put Misplaced put misplaced
 
 module _ (g : Nodes) (roots : List ℕ) (Came After : Names → ℕ → Type 0) (locations new : ℕ → Option Location) (ids : Step → Option ℕ) (count : ℕ) (are : AreLocations g roots Came locations ids count)
-    (path : Names) (id depth q : ℕ) (is : slice_get are.paths id ≡ Some path) (long : length path ≡ depth) (near : depth ≤ 64)
+    (path : Names) (id depth q : ℕ) (is : slice_get are.paths id ≡ Some path) (long : length path ≡ depth) (near : depth ≤ max_names)
     (grows : Grows Came After (λ p. p ≡ path) q) (stands : (p : Names) (n : ℕ) → After p n → NodeStandsAt g roots p n) where
   here_only : (p : Names) → (Came p q → p ≡ path) → After p q → p ≡ path
   here_only p came a = ⊎_elim came (λ (e : (q ≡ q) × (p ≡ path)). e.1) (grows.only p q a)

@@ -15,6 +15,7 @@ use Rattle.tm_image.specs.Room.{HasRoom, AreStaged, free_of}
 use Rattle.tm_gate.specs.declared.root.Root.{Root}
 use Rattle.tm_table.specs.Text.{table_text}
 use Rattle.std.specs.List.{All}
+use Rattle.tm_base.specs.Limits.{max_snapshots}
 use Rattle.tm_store_records.specs.declared.snapshot.Snapshot.{Snapshot}
 use Rattle.tm_store_records.specs.Heads.{heads_of}
 use Rattle.tm_store_records.specs.Found.{machine_in, nodes_in, snapshots_in}
@@ -60,7 +61,7 @@ whole_again h k whole fits tag runs side records sound settled space machine num
   snapshots_are = snapshots ∙ whole.snapshots_are ∙ ap (λ (es : Records). snapshots_in (heads_of es)) (sym records);
   tag = tag;
   fits = fits;
-  runs = λ date is. let both = runs date is in (both.0, record { later = subst (λ (ss : List Snapshot). All (λ s. s.date < date) ss) (sym snapshots) both.1.later; few = subst (λ (ss : List Snapshot). length ss < 1024) (sym snapshots) both.1.few; number = subst (λ n. n < 2 ^ 40) (sym number) both.1.number });
+  runs = λ date is. let both = runs date is in (both.0, record { later = subst (λ (ss : List Snapshot). All (λ s. s.date < date) ss) (sym snapshots) both.1.later; few = subst (λ (ss : List Snapshot). length ss < max_snapshots) (sym snapshots) both.1.few; number = subst (λ n. n < 2 ^ 40) (sym number) both.1.number });
   blobs = blobs;
 }
 

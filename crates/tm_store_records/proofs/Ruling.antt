@@ -6,6 +6,7 @@ use Rattle.std.specs.Map.{keys_of}
 use Rattle.std.specs.List.Sorted.{IsStrictlySortedBy}
 use Rattle.std.proofs.lemmas.Bool.{cases_lt}
 use Rattle.std.proofs.lemmas.Cmp.{nat_cmp_total, tied_itself}
+use Rattle.tm_base.specs.Limits.{max_names}
 use Rattle.tm_base.specs.Paths.{Names}
 use Rattle.tm_tree.specs.declared.node.NodeRow.{NodeRow}
 use Rattle.tm_graph.specs.Nodes.{Nodes, node}
@@ -68,7 +69,7 @@ module _ (g : Nodes) (roots : List ℕ) (number : ℕ) (locations : ℕ → Opti
       same_entry i f same at = let both : Some e ≡ Some f = sym is ∙ ap (slice_get g) (sym same) ∙ at in cc
 
       -- with the rules of where it stands it keeps all
-      kept : ((p : Names) → NodeStandsAt g roots p e.0 → length p ≤ 64) → ((p q : Names) → NodeStandsAt g roots p e.0 → NodeStandsAt g roots q e.0 → p ≡ q)
+      kept : ((p : Names) → NodeStandsAt g roots p e.0 → length p ≤ max_names) → ((p q : Names) → NodeStandsAt g roots p e.0 → NodeStandsAt g roots q e.0 → p ≡ q)
           → ((m : ℕ) (other : NodeRow) (p : Names) → m < e.0 → node g m ≡ Some other → other.label ≡ e.1.label → NodeStandsAt g roots p m → NodeStandsAt g roots p e.0 → ⊥)
           → IsGoodNode g roots number place e.0 e.1
       kept near one_path one_node = record {

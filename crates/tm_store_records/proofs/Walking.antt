@@ -2,6 +2,7 @@
 use Rattle.std.proofs.Common.{◌≡◌, inl, ℕ, ◌+◌, ◌<◌, ◌≤◌, cond, Option, Some, List, [], ◌∷◌, ◌++◌, length, nat_eq, refl, ap, ◌∙◌, arith, length-append}
 use Rattle.std.specs.Ordering.{nat_cmp}
 use Rattle.std.specs.BTreeMap.{get}
+use Rattle.tm_base.specs.Limits.{max_names}
 use Rattle.tm_base.specs.Paths.{Names}
 use Rattle.tm_tree.specs.declared.node.Child.{Child}
 use Rattle.tm_graph.specs.Nodes.{Nodes}
@@ -45,7 +46,7 @@ module _ (g : Nodes) (roots : List ℕ) (place entry number : ℕ) (child : Chil
     beneath p at = comes_stands g roots (DoneIn g place (entry + 1)) (p ++ child.name ∷ []) child.node (grows.adds (p ++ child.name ∷ []) (p, at, refl))
 
     module _ (old : Locations) (tell : LocationsTell g roots Before old) where
-      module _ (new : Locations) (path depth : ℕ) (at : locations_of old number ≡ Some (At path depth)) (joins : IsJoined old new path depth child) (near : depth < 64) where
+      module _ (new : Locations) (path depth : ℕ) (at : locations_of old number ≡ Some (At path depth)) (joins : IsJoined old new path depth child) (near : depth < max_names) where
         pub step_joined : LocationsTell g roots After new
         step_joined =
             let one = tell.one number path depth at in
@@ -67,7 +68,7 @@ module _ (g : Nodes) (roots : List ℕ) (place entry number : ℕ) (child : Chil
         is_misplaced misplaced = misplaced_put g roots Before After (locations_of old) new (ids_of old) old.count tell (Beneath g roots place number e.row e.sorted e.is entry child e.rise e.named) child.node grows puts misplaced
 
         -- under a folder that is too deep
-        pub step_deep : (path depth : ℕ) → locations_of old number ≡ Some (At path depth) → 64 ≤ depth → AreLocations g roots After new (ids_of old) old.count
+        pub step_deep : (path depth : ℕ) → locations_of old number ≡ Some (At path depth) → max_names ≤ depth → AreLocations g roots After new (ids_of old) old.count
         step_deep path depth at deep = is_misplaced (λ short one_path.
             let one = tell.one number path depth at in
             let long = one.long in

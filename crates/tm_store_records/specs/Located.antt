@@ -42,7 +42,7 @@ location_with (Some Misplaced) path depth = Misplaced
 
 -- ---- what the locations say
 
--- a number that doesn't stand at one path of at most 64 names, though it stands somewhere
+-- a number that doesn't stand at one path of at most `max_names` names, though it stands somewhere
 abbrev pub IsMisplaced : Nodes → List ℕ → ℕ → Type 0
 IsMisplaced g roots n = ((p : Names) → NodeStandsAt g roots p n → length p ≤ max_names) → ((p q : Names) → NodeStandsAt g roots p n → NodeStandsAt g roots q n → p ≡ q) → ⊥
 

@@ -17,7 +17,7 @@ use Rattle.tm_store_records.specs.Places.{NodeStandsAt}
 
 -- ---- the rules of a record by itself
 
--- the most bytes of data: of a file 16 MiB, of others none
+-- the most bytes of data: of a file `max_file_bytes`, of others none
 abbrev pub most_of_leaf : LeafRow → ℕ
 most_of_leaf (File attrs stamp size) = max_file_bytes
 most_of_leaf (Link attrs stamp target) = 0
