@@ -17,6 +17,7 @@ use crate::destination::{Destination, destination_of};
 use crate::place::{dated, last_name};
 use std::alloc::{AllocError, Global};
 use std::collections::BTreeMap;
+use tm_base::limits::MAX_NAMES;
 use tm_base::{LineFault, Moment, Name, Path, Refused};
 use tm_index::Index;
 use tm_records::{Body, Put};
@@ -168,11 +169,10 @@ fn plan_shift(
     ensures { Plans volume.now change.now moment result }
 {
     volume.rules();
-    let steps = 65 - to.names().len() as u64;
-    match reaches(volume.alloc(), volume.numbers(), number, steps) {
-        Ok(true) => return Err(LineFault::Refused(Refused::TooDeep)),
-        Ok(false) => (),
-        Err(_) => return Err(LineFault::Memory),
+    let steps = (MAX_NAMES + 1 - to.names().len()) as u64;
+    let deep = reaches(volume.alloc(), volume.numbers(), number, steps)?;
+    if deep {
+        return Err(LineFault::Refused(Refused::TooDeep));
     }
     let Some(moment) = moment else {
         return Err(LineFault::Refused(Refused::NoMoment));
@@ -181,10 +181,7 @@ fn plan_shift(
     let Some(next) = volume.next_after(count) else {
         return Err(LineFault::Refused(Refused::IdsSpent));
     };
-    match movement(volume, from, to, number, folder, moment, next) {
-        Ok(edit) => Ok(edit),
-        Err(_) => Err(LineFault::Memory),
-    }
+    Ok(movement(volume, from, to, number, folder, moment, next)?)
 }
 
 /// What is planned for a move.
@@ -198,7 +195,6 @@ pub(crate) fn plan_mv(
     requires { change.now ≡ Mv from.now to.now }
     ensures { Plans volume.now change.now moment result }
 {
-    volume.rules();
     let start = volume.number_at(from);
     let destination = destination_of(volume, to)?;
     let there = volume.has(to);

@@ -32,10 +32,8 @@ use tm_world::{Side, World};
 pub(crate) fn touching(made: Result<(), LineFault>, touched: Touches) -> Result<Touches, LineFault>
     ensures { result ≡ telling made touched }
 {
-    match made {
-        Ok(()) => Ok(touched),
-        Err(fault) => Err(fault),
-    }
+    made?;
+    Ok(touched)
 }
 
 /// Makes an edit that brings no data, in one commit. It is refused exactly by the tests of
