@@ -69,14 +69,10 @@ pub(crate) fn bring_planned<W: World>(
     ensures fault { BlamesOnly RefusedSide.Volume result (W.faults world.old) (W.faults world.new) }
 {
     volume.rules();
-    match volume.stage(world, contents) {
-        Ok(blob) => {
-            let made = volume.apply(world, bring(edit, blob));
-            volume.rules();
-            touching(made, touched)
-        }
-        Err(fault) => Err(fault),
-    }
+    let blob = volume.stage(world, contents)?;
+    let made = volume.apply(world, bring(edit, blob));
+    volume.rules();
+    touching(made, touched)
 }
 
 /// What is planned for a change that brings data.

@@ -17,7 +17,7 @@ use Rattle.tm_changes.proofs.attrs.plan_attrs.Goals as goal
 
 pub returns-in_err-number : goal.returns-in_err-number
 returns-in_err-number c = λ moment.
-    let q = err_from_is_err_and c.from_residual-in_err-number.result c.from_residual-in_err-number.ensures.1 in
+    let q = err_from_is_err_and c.from_residual.result c.from_residual.ensures.1 in
     subst (λ (r : Result Edit LineFault). Plans c.args.volume.now c.args.change.now moment r) (sym (q.1 ∙ ap Err q.2))
     (λ bytes good. not_found (volume_on c.args.volume.now bytes).contents c.args.change.now c.args.path.now moment c.requires.of c.in_err-number.field-0.0 (c.in_err-number.ensures.refused bytes))
 

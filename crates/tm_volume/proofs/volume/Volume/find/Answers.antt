@@ -13,7 +13,7 @@ item_row-requires c = found_there _ c.args.self.now c.self.view_is c.args.path.n
 
 pub returns-in_err-number : goal.returns-in_err-number
 returns-in_err-number c = λ bytes.
-    let q = err_from_is_err_and c.from_residual-in_err-number.result c.from_residual-in_err-number.ensures.1 in
+    let q = err_from_is_err_and c.from_residual.result c.from_residual.ensures.1 in
     subst (λ (r : Result ItemRow LineFault). FindsRow (walk (tree_on c.args.self.now bytes) c.args.path.now) r) (sym (q.1 ∙ ap Err q.2)) (c.in_err-number.ensures.refused bytes)
 
 pub returns : goal.returns
