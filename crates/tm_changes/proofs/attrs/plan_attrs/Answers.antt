@@ -30,8 +30,8 @@ returns-in-Some c = λ moment bytes good.
     = (λ i. first_refused (attrs_tests c.args.change.now (sym c.is_root.ensures i) (sym c.attrs_of.ensures i))) ∙ sym c.in-Some.ensures in
     set_denied m s.numbers (on_shelf_of m s) c.args.path.now c.in_ok-number.number c.in_ok-number.ensures.found c.in_ok-row.row told c.args.change.now c.requires.of bytes moment c.in-Some.why refuses
 
-pub returns-then-next-drawn-gt-MAX_NEXT : goal.returns-then-next-drawn-gt-MAX_NEXT
-returns-then-next-drawn-gt-MAX_NEXT c = λ moment bytes good.
+pub returns-then-next-drawn : goal.returns-then-next-drawn
+returns-then-next-drawn c = λ moment bytes good.
     let m = c.args.volume.now in
     let s = c.rules.ensures.shelved in
     let told = c.in_ok-row.ensures in
@@ -40,7 +40,7 @@ returns-then-next-drawn-gt-MAX_NEXT c = λ moment bytes good.
     let next_is = c.next_number-next.ensures.is in
     let many : length c.as_slice.result.now ≡ length c.args.touched.now = ap length c.as_slice.ensures in
     set_spent m s.numbers (on_shelf_of m s) c.args.path.now c.in_ok-number.number c.in_ok-number.ensures.found c.in_ok-row.row told c.args.change.now c.requires.of c.args.touched.now c.requires.touched bytes moment passes
-    (omega (arith, c.if-next-drawn-gt-MAX_NEXT.true, c.stamps.ensures.value, many, next_is))
+    (omega (arith, c.if-next-drawn.true, c.stamps.ensures.value, many, next_is))
 
 pub reset-requires-clause-row : goal.reset-requires-clause-row
 reset-requires-clause-row c =
@@ -77,7 +77,7 @@ returns c = λ moment.
     reset_writes m s.numbers (on_shelf_of m s) c.args.change.now c.args.path.now c.requires.of c.in_ok-number.number c.in_ok-number.ensures.found c.in_ok-row.row own passes
     (subst IsItemRow new_is c.in_ok-new.ensures.rules) drawn
     (set_draws m s.numbers (on_shelf_of m s) c.args.path.now c.in_ok-number.number c.in_ok-number.ensures.found c.in_ok-row.row told c.args.change.now c.requires.of c.args.touched.now c.requires.touched)
-    (omega arith) (omega (arith, c.if-next-drawn-gt-MAX_NEXT.false, c.stamps.ensures.value, many, next_is)) c.in_ok-reset_edit.field-0
+    (omega arith) (omega (arith, c.if-next-drawn.false, c.stamps.ensures.value, many, next_is)) c.in_ok-reset_edit.field-0
     (subst (λ k. IsReset c.in_ok-reset_edit.field-0 c.in_ok-number.number (reset_row c.args.change.now m.tag.next c.in_ok-row.row) k) next_then
     (subst (λ (r : ItemRow). IsReset c.in_ok-reset_edit.field-0 c.in_ok-number.number r (c.next_number-next.result + (c.stamps.result + length c.as_slice.result.now))) new_is c.in_ok-reset_edit.ensures))
     moment
