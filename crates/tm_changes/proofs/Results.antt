@@ -1,9 +1,7 @@
 -- What follows from what a call answers.
-use Rattle.std.proofs.Common.{◌≡◌, ◌∙◌, sym, ap, Result, Ok, Err}
+use Rattle.std.proofs.Common.{◌≡◌, ◌∙◌, sym, Result, Ok, Err}
 use Rattle.std.specs.Prelude.{OnOk, OnErr}
-use Rattle.tm_base.specs.LineFaults.{NoFault}
 use Rattle.tm_base.specs.declared.refused.LineFault.{LineFault}
-use Rattle.tm_base.specs.declared.refused.LineFault.TheVariants.{Fault}
 use Rattle.tm_volume.specs.Seen.{IsShelved}
 use Rattle.tm_volume.specs.Seen.{Seen}
 use Rattle.tm_volume.proofs.Finding.{OnShelf}
@@ -21,13 +19,6 @@ pub handed_on : {A : Type 0} {result : Result A LineFault} {error why : LineFaul
 handed_on from is = same_error (sym from ∙ is)
   where
     same_error : {A : Type 0} {a b : LineFault} → ◌≡◌ {A = Result A LineFault} (Err a) (Err b) → a ≡ b
-    same_error h = cc
-
--- what is handed on is a fault only where it was one
-pub still_fine : {A B : Type 0} {result : Result A LineFault} {why : LineFault} → result ≡ Err why → NoFault result → NoFault {A = B} (Err why)
-still_fine from fine = λ side bad. fine side (from ∙ ap Err (same_error bad))
-  where
-    same_error : {C : Type 0} {a b : LineFault} → ◌≡◌ {A = Result C LineFault} (Err a) (Err b) → a ≡ b
     same_error h = cc
 
 -- a volume on its shelf

@@ -17,7 +17,6 @@ use crate::destination::{Destination, destination_of};
 use crate::place::{dated, last_name};
 use std::alloc::{AllocError, Global};
 use std::collections::BTreeMap;
-use tm_base::limits::MAX_NAMES;
 use tm_base::{LineFault, Moment, Name, Path, Refused};
 use tm_index::Index;
 use tm_records::{Body, Put};
@@ -169,10 +168,11 @@ fn plan_shift(
     ensures { Plans volume.now change.now moment result }
 {
     volume.rules();
-    let steps = (MAX_NAMES + 1 - to.names().len()) as u64;
-    let deep = reaches(volume.alloc(), volume.numbers(), number, steps)?;
-    if deep {
-        return Err(LineFault::Refused(Refused::TooDeep));
+    let steps = 65 - to.names().len() as u64;
+    match reaches(volume.alloc(), volume.numbers(), number, steps) {
+        Ok(true) => return Err(LineFault::Refused(Refused::TooDeep)),
+        Ok(false) => (),
+        Err(_) => return Err(LineFault::Memory),
     }
     let Some(moment) = moment else {
         return Err(LineFault::Refused(Refused::NoMoment));
@@ -181,7 +181,10 @@ fn plan_shift(
     let Some(next) = volume.next_after(count) else {
         return Err(LineFault::Refused(Refused::IdsSpent));
     };
-    Ok(movement(volume, from, to, number, folder, moment, next)?)
+    match movement(volume, from, to, number, folder, moment, next) {
+        Ok(edit) => Ok(edit),
+        Err(_) => Err(LineFault::Memory),
+    }
 }
 
 /// What is planned for a move.

@@ -69,10 +69,14 @@ pub(crate) fn bring_planned<W: World>(
     ensures fault { BlamesOnly RefusedSide.Volume result (W.faults world.old) (W.faults world.new) }
 {
     volume.rules();
-    let blob = volume.stage(world, contents)?;
-    let made = volume.apply(world, bring(edit, blob));
-    volume.rules();
-    touching(made, touched)
+    match volume.stage(world, contents) {
+        Ok(blob) => {
+            let made = volume.apply(world, bring(edit, blob));
+            volume.rules();
+            touching(made, touched)
+        }
+        Err(fault) => Err(fault),
+    }
 }
 
 /// What is planned for a change that brings data.

@@ -32,8 +32,10 @@ use tm_world::{Side, World};
 pub(crate) fn touching(made: Result<(), LineFault>, touched: Touches) -> Result<Touches, LineFault>
     ensures { result ≡ telling made touched }
 {
-    made?;
-    Ok(touched)
+    match made {
+        Ok(()) => Ok(touched),
+        Err(fault) => Err(fault),
+    }
 }
 
 /// Makes an edit that brings no data, in one commit. It is refused exactly by the tests of

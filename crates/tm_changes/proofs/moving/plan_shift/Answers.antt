@@ -1,5 +1,4 @@
 use Rattle.std.proofs.Common.{◌≡◌, ℕ, ◌+◌, ◌-◌, ◌^◌, ◌≤◌, ◌∷◌, ◌++◌, List, length, sym, ◌∙◌, ap, subst, arith}
-use Rattle.tm_base.specs.Limits.{max_names}
 use Rattle.tm_base.specs.Paths.{Names}
 use Rattle.tm_base.specs.declared.refused.Refused.TheVariants.{TooDeep}
 use Rattle.tm_index.specs.Folders.{numbers_in}
@@ -17,13 +16,13 @@ use Rattle.tm_changes.proofs.Relocating.{IsShift, shift_left, draws, movable, sh
 use Rattle.tm_changes.proofs.Shifting.{move_edit, move_no_data, move_good, move_stored}
 use Rattle.tm_changes.proofs.moving.plan_shift.Goals as goal
 
-pub returns-then-deep : goal.returns-then-deep
-returns-then-deep c =
+pub returns-in-Ok-true : goal.returns-in-Ok-true
+returns-in-Ok-true c =
     let m = c.args.volume.now in
     let a = c.args.from.now in
     let b = c.args.to.now in
     let n = c.args.number in
-    let deep = c.in_ok-deep.deep in
+    let deep = c.in-Ok-true.field-0 in
     let n0 = numbers_in c.numbers.result.now in
     let is : IsShift m n0 a b n c.args.folder c.args.change.now deep = record {
       on = on_index m c.rules.ensures.shelved n0 c.numbers.ensures;
@@ -33,10 +32,10 @@ returns-then-deep c =
       none = c.requires.none;
       apart = c.requires.apart;
       few = omega (arith, c.names.ensures.short, ap length c.names.ensures.names);
-      reach = subst (λ (q : Names). Reaches n0 n (max_names + 1 - length q) deep) c.names.ensures.names c.in_ok-deep.ensures;
+      reach = subst (λ (q : Names). Reaches n0 n (65 - length q) deep) c.names.ensures.names c.in-Ok-true.ensures;
     } in
     λ bytes good. shift_left m n0 a b n c.args.folder c.args.change.now deep is c.args.moment bytes
-    ∙ ap (λ d. first_refused ((d, TooDeep) ∷ needs_moment c.args.moment ++ ids_spent (volume_on m bytes).contents (numbers (tree_on m bytes) (Mv a b)))) c.if-deep.true
+    ∙ ap (λ d. first_refused ((d, TooDeep) ∷ needs_moment c.args.moment ++ ids_spent (volume_on m bytes).contents (numbers (tree_on m bytes) (Mv a b)))) c.in-Ok-true.field-0-test
 
 pub returns-in_default : goal.returns-in_default
 returns-in_default c =
@@ -44,7 +43,7 @@ returns-in_default c =
     let a = c.args.from.now in
     let b = c.args.to.now in
     let n = c.args.number in
-    let deep = c.in_ok-deep.deep in
+    let deep = c.in-Ok-false.field-0 in
     let n0 = numbers_in c.numbers.result.now in
     let is : IsShift m n0 a b n c.args.folder c.args.change.now deep = record {
       on = on_index m c.rules.ensures.shelved n0 c.numbers.ensures;
@@ -54,10 +53,10 @@ returns-in_default c =
       none = c.requires.none;
       apart = c.requires.apart;
       few = omega (arith, c.names.ensures.short, ap length c.names.ensures.names);
-      reach = subst (λ (q : Names). Reaches n0 n (max_names + 1 - length q) deep) c.names.ensures.names c.in_ok-deep.ensures;
+      reach = subst (λ (q : Names). Reaches n0 n (65 - length q) deep) c.names.ensures.names c.in-Ok-false.ensures;
     } in
     λ bytes good. shift_left m n0 a b n c.args.folder c.args.change.now deep is c.args.moment bytes
-    ∙ ap (λ d. first_refused ((d, TooDeep) ∷ needs_moment c.args.moment ++ ids_spent (volume_on m bytes).contents (numbers (tree_on m bytes) (Mv a b)))) c.if-deep.false
+    ∙ ap (λ d. first_refused ((d, TooDeep) ∷ needs_moment c.args.moment ++ ids_spent (volume_on m bytes).contents (numbers (tree_on m bytes) (Mv a b)))) c.in-Ok-false.field-0-test
     ∙ no_moment (ids_spent (volume_on m bytes).contents (numbers (tree_on m bytes) (Mv a b))) c.args.moment c.in_default.is
 
 pub returns-in_default-next_after : goal.returns-in_default-next_after
@@ -66,7 +65,7 @@ returns-in_default-next_after c =
     let a = c.args.from.now in
     let b = c.args.to.now in
     let n = c.args.number in
-    let deep = c.in_ok-deep.deep in
+    let deep = c.in-Ok-false.field-0 in
     let n0 = numbers_in c.numbers.result.now in
     let is : IsShift m n0 a b n c.args.folder c.args.change.now deep = record {
       on = on_index m c.rules.ensures.shelved n0 c.numbers.ensures;
@@ -76,12 +75,12 @@ returns-in_default-next_after c =
       none = c.requires.none;
       apart = c.requires.apart;
       few = omega (arith, c.names.ensures.short, ap length c.names.ensures.names);
-      reach = subst (λ (q : Names). Reaches n0 n (max_names + 1 - length q) deep) c.names.ensures.names c.in_ok-deep.ensures;
+      reach = subst (λ (q : Names). Reaches n0 n (65 - length q) deep) c.names.ensures.names c.in-Ok-false.ensures;
     } in
     let kind = (λ (bytes : ℕ → List ℕ). sym (c.is_folder.ensures bytes)) in
     let draw = λ (bytes : ℕ → List ℕ). draws m n0 a b n c.args.folder c.args.change.now deep is c.is_folder.result kind bytes ∙ sym c.drawn_by_move-count.ensures.count in
     λ bytes good. shift_left m n0 a b n c.args.folder c.args.change.now deep is c.args.moment bytes
-    ∙ ap (λ d. first_refused ((d, TooDeep) ∷ needs_moment c.args.moment ++ ids_spent (volume_on m bytes).contents (numbers (tree_on m bytes) (Mv a b)))) c.if-deep.false
+    ∙ ap (λ d. first_refused ((d, TooDeep) ∷ needs_moment c.args.moment ++ ids_spent (volume_on m bytes).contents (numbers (tree_on m bytes) (Mv a b)))) c.in-Ok-false.field-0-test
     ∙ spent (volume_on m bytes).contents (numbers (tree_on m bytes) (Mv a b)) c.args.moment c.in-Some.moment c.in-Some.is (omega (arith, draw bytes, c.in_default-next_after.ensures.none))
 
 pub movement-requires : goal.movement-requires
@@ -90,7 +89,7 @@ movement-requires c =
     let a = c.args.from.now in
     let b = c.args.to.now in
     let n = c.args.number in
-    let deep = c.in_ok-deep.deep in
+    let deep = c.in-Ok-false.field-0 in
     let n0 = numbers_in c.numbers.result.now in
     let is : IsShift m n0 a b n c.args.folder c.args.change.now deep = record {
       on = on_index m c.rules.ensures.shelved n0 c.numbers.ensures;
@@ -100,17 +99,17 @@ movement-requires c =
       none = c.requires.none;
       apart = c.requires.apart;
       few = omega (arith, c.names.ensures.short, ap length c.names.ensures.names);
-      reach = subst (λ (q : Names). Reaches n0 n (max_names + 1 - length q) deep) c.names.ensures.names c.in_ok-deep.ensures;
+      reach = subst (λ (q : Names). Reaches n0 n (65 - length q) deep) c.names.ensures.names c.in-Ok-false.ensures;
     } in
-    movable m n0 a b n c.args.folder c.args.change.now deep is c.if-deep.false
+    movable m n0 a b n c.args.folder c.args.change.now deep is c.in-Ok-false.field-0-test
 
-pub returns : goal.returns
-returns c =
+pub returns-in-Ok : goal.returns-in-Ok
+returns-in-Ok c =
     let m = c.args.volume.now in
     let a = c.args.from.now in
     let b = c.args.to.now in
     let n = c.args.number in
-    let deep = c.in_ok-deep.deep in
+    let deep = c.in-Ok-false.field-0 in
     let n0 = numbers_in c.numbers.result.now in
     let is : IsShift m n0 a b n c.args.folder c.args.change.now deep = record {
       on = on_index m c.rules.ensures.shelved n0 c.numbers.ensures;
@@ -120,20 +119,20 @@ returns c =
       none = c.requires.none;
       apart = c.requires.apart;
       few = omega (arith, c.names.ensures.short, ap length c.names.ensures.names);
-      reach = subst (λ (q : Names). Reaches n0 n (max_names + 1 - length q) deep) c.names.ensures.names c.in_ok-deep.ensures;
+      reach = subst (λ (q : Names). Reaches n0 n (65 - length q) deep) c.names.ensures.names c.in-Ok-false.ensures;
     } in
     let kind = (λ (bytes : ℕ → List ℕ). sym (c.is_folder.ensures bytes)) in
     let draw = λ (bytes : ℕ → List ℕ). draws m n0 a b n c.args.folder c.args.change.now deep is c.is_folder.result kind bytes ∙ sym c.drawn_by_move-count.ensures.count in
     let k = c.args.folder in
-    let can = movable m n0 a b n k c.args.change.now deep is c.if-deep.false in
+    let can = movable m n0 a b n k c.args.change.now deep is c.in-Ok-false.field-0-test in
     let moment = c.in-Some.moment in
-    let e = c.in_ok-movement.field-0 in
-    let shifts = c.in_ok-movement.ensures.shifts in
-    let low = c.in_ok-movement.ensures.low in
+    let e = c.in-Ok.edit in
+    let shifts = c.in-Ok.ensures.shifts in
+    let low = c.in-Ok.ensures.low in
     let count = c.drawn_by_move-count.result in
     let got = c.in-Some-next_after.ensures.some in
     let next : ℕ = m.tag.next + count in
-    let next_is : e.next ≡ next = c.in_ok-movement.ensures.next ∙ got.0 in
+    let next_is : e.next ≡ next = c.in-Ok.ensures.next ∙ got.0 in
     let least : m.tag.next ≤ next = omega arith in
     let most : next ≤ 2 ^ 62 = omega (arith, got.0, got.1) in
     record {
@@ -141,7 +140,7 @@ returns c =
       no_data = move_no_data m n0 is.on a b n k moment next can e shifts low next_is least most;
       unstaged = λ bytes. ap (staged_len (volume_on m bytes).contents) c.requires.change;
       passes = λ bytes good. shift_left m n0 a b n c.args.folder c.args.change.now deep is c.args.moment bytes
-          ∙ ap (λ d. first_refused ((d, TooDeep) ∷ needs_moment c.args.moment ++ ids_spent (volume_on m bytes).contents (numbers (tree_on m bytes) (Mv a b)))) c.if-deep.false
+          ∙ ap (λ d. first_refused ((d, TooDeep) ∷ needs_moment c.args.moment ++ ids_spent (volume_on m bytes).contents (numbers (tree_on m bytes) (Mv a b)))) c.in-Ok-false.field-0-test
           ∙ drawn (volume_on m bytes).contents (numbers (tree_on m bytes) (Mv a b)) c.args.moment moment c.in-Some.is (omega (arith, draw bytes, most));
       good = move_good m n0 is.on a b n k moment next can e shifts low next_is least most;
       stored = λ bytes. move_stored m n0 is.on a b n k moment next can e shifts low next_is least most bytes
