@@ -17,7 +17,6 @@ use Rattle.tm_tree.proofs.Order.{path_total}
 use Rattle.tm_graph.specs.Nodes.{Nodes}
 use Rattle.tm_graph.specs.Trees.{number_at}
 use Rattle.tm_volume.specs.Seen.{Seen, tree_on}
-use Rattle.tm_volume_records.specs.Records.{most_number}
 use Rattle.tm_copy.specs.Building.{Backup, first, all, AreNew}
 use Rattle.tm_copy.specs.Driving.{IsPlaced, IsBackedUp}
 use Rattle.tm_backup.specs.Taking.{taken, as_taken, view_on}
@@ -96,5 +95,5 @@ few_new b new fresh root are up =
     are.numbered
 
 -- the items that are kept of a volume are at most as many as the volume's
-pub taken_few : (prev : LabelledTree) (v : Seen) (bytes : ℕ → List ℕ) → length (tree_on v bytes) ≤ most_number → length (as_taken prev (view_on v bytes)) ≤ max_items
+pub taken_few : (prev : LabelledTree) (v : Seen) (bytes : ℕ → List ℕ) → length (tree_on v bytes) ≤ max_items → length (as_taken prev (view_on v bytes)) ≤ max_items
 taken_few prev v bytes few = omega (arith, length-map {B = Names × Item} (view_on v bytes) (λ (row : Names × Item). (row.0, taken (item_at (bare prev) row.0) row.1)), view_few v bytes, few)

@@ -9,7 +9,7 @@ Listed v w = w ≡ record v { looks = w.looks }
 
 module _ (v w : Seen) (k : ℕ) (is : w ≡ record v { looks = k }) where
   pub kept_listed : IsKept v → IsKept w
-  kept_listed h = subst IsKept (sym is) (record { image = h.image; side = h.side; tag_is = h.tag_is; tagged = h.tagged; head_is = h.head_is; sound = h.sound })
+  kept_listed h = subst IsKept (sym is) (record { image = h.image; side = h.side; tag_is = h.tag_is; tagged = h.tagged; head_is = h.head_is; sound = h.sound; lengths = h.lengths })
 
   pub ready_listed : (blocks : ℕ) → IsReady v blocks → IsReady w blocks
   ready_listed blocks h = subst (λ (x : Seen). IsReady x blocks) (sym is) (record { settled = h.settled; space = h.space; count = h.count; unstaged = h.unstaged })

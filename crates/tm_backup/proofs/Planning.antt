@@ -1,5 +1,5 @@
 -- What becomes of an entry.
-use Rattle.std.proofs.Common.{if◌then◌else◌, ◌≡◌, ℕ, ◌≤◌, Bool, true, false, cond, not, Option, Some, None, IfSome, List, [], ◌∷◌, ◌++◌, length, refl, sym, ap, ◌∙◌, subst}
+use Rattle.std.proofs.Common.{if◌then◌else◌, ◌≡◌, ℕ, ◌≤◌, Bool, true, false, cond, not, Option, Some, None, IfSome, List, [], ◌∷◌, ◌++◌, length, refl, sym, ap, ◌∙◌, subst, arith}
 use Rattle.tm_base.specs.Paths.{Names}
 use Rattle.tm_base.specs.Limits.{max_file_bytes}
 use Rattle.tm_chain.specs.Blob.{blob_len, bytes_in}
@@ -16,7 +16,8 @@ use Rattle.tm_tree.specs.Views.{is_hidden, hidden_paths, view}
 use Rattle.tm_tree.proofs.ViewsKept.{item_at-view}
 use Rattle.tm_graph.specs.Nodes.{IsGraph}
 use Rattle.tm_store_records.specs.Held.{Held}
-use Rattle.tm_volume.specs.Seen.{Seen, tree_on}
+use Rattle.tm_volume.specs.Bounds.{ItemsKeepBounds}
+use Rattle.tm_volume.specs.Seen.{Seen, IsKept, tree_on}
 use Rattle.tm_copy.specs.Keeping.{kept_file}
 use Rattle.tm_copy.specs.Listed.{StandsAs}
 use Rattle.tm_copy.specs.Building.{Backup, base_at, IsSound}
@@ -41,6 +42,12 @@ view_item fixed t p e is = by_hidden (is_hidden (hidden_paths fixed t) p) (sym (
 -- a file of the view is one of the volume
 pub file_of : (v : Seen) (p : Names) (a : Attrs) (stamp size : ℕ) (bytes : ℕ → List ℕ) → StandsAs (view_on v bytes) p (kind.File a stamp size) → IsFileOf size (item_at (tree_on v bytes) p)
 file_of v p a stamp size bytes s = (item.File a stamp s.0, view_item v.fixed (tree_on v bytes) p (item.File a stamp s.0) s.1, refl, s.2)
+
+-- and has no more bytes than a file may have
+pub file_small : (v : Seen) (p : Names) (a : Attrs) (stamp size : ℕ) → ItemsKeepBounds → IsKept v → ((bytes : ℕ → List ℕ) → StandsAs (view_on v bytes) p (kind.File a stamp size)) → size ≤ max_file_bytes
+file_small v p a stamp size bounds kept stands =
+    let file = file_of v p a stamp size (λ _. []) (stands (λ _. [])) in
+    omega (arith, file.3, (bounds v (λ _. []) p file.0 kept file.1).size)
 
 module _ (told : Type 0) (s : Held) (v : Seen) (l : Log) (p : Names) (base root : Option ℕ) (files bytes : ℕ → List ℕ) (graph : IsGraph s.nodes) (tree : IsTree (view_on v bytes)) (suits : Suits told s l p base root bytes) where
   abbrev b : Backup

@@ -16,7 +16,6 @@ use Rattle.tm_copy.specs.Copying.{node_under}
 use Rattle.tm_copy.proofs.Ways.{number_here}
 use Rattle.tm_store_records.specs.Held.{Held, IsWhole, store_on, files_of}
 use Rattle.tm_volume.specs.Seen.{Seen, tree_on}
-use Rattle.tm_volume_records.specs.Records.{most_number}
 use Rattle.tm_world.specs.Log.{Log}
 use Rattle.std.specs.List.{flat_map}
 use Rattle.tm_backup.specs.Growing.{Suits, counted, folders_from, staging_from}
@@ -61,7 +60,7 @@ view_few v bytes =
     omega (arith, length-filter shown (tree_on v bytes), count_by-le-length shown (tree_on v bytes))
 
 -- where the count stood still at its end, or didn't come there
-pub walked_counted : (v : Seen) (bytes : ℕ → List ℕ) (p : Names) (old walked : ℕ) → length (tree_on v bytes) ≤ most_number → p ≡ [] → old ≡ 0
+pub walked_counted : (v : Seen) (bytes : ℕ → List ℕ) (p : Names) (old walked : ℕ) → length (tree_on v bytes) ≤ max_items → p ≡ [] → old ≡ 0
     → counted walked 0 ≡ counted old (length (folders_from (view_on v bytes) p)) → walked ≡ count_by (λ (row : Names × Item). is_folder row.1) (view_on v bytes)
 walked_counted v bytes p old walked few root none is =
     let t = view_on v bytes in
@@ -74,7 +73,7 @@ walked_counted v bytes p old walked few root none is =
     still : (n : ℕ) → n ≤ max_items → counted walked 0 ≡ counted 0 n → walked ≡ n
     still n low same = omega (arith, low, same)
 
-pub walked_all : (v : Seen) (bytes : ℕ → List ℕ) (p : Names) (old walked : ℕ) → length (tree_on v bytes) ≤ most_number → p ≡ [] → old ≡ 0 → walked ≡ counted old (length (folders_from (view_on v bytes) p))
+pub walked_all : (v : Seen) (bytes : ℕ → List ℕ) (p : Names) (old walked : ℕ) → length (tree_on v bytes) ≤ max_items → p ≡ [] → old ≡ 0 → walked ≡ counted old (length (folders_from (view_on v bytes) p))
     → walked ≡ count_by (λ (row : Names × Item). is_folder row.1) (view_on v bytes)
 walked_all v bytes p old walked few root none is = walked_counted v bytes p old walked few root none (within old (length (folders_from (view_on v bytes) p)) is)
   where

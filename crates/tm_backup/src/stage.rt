@@ -25,7 +25,6 @@ ghost use Rattle.tm_backup.specs.Walking.{MayEnter, MayEnterAll};
 
 use crate::view::child_of;
 use std::alloc::Global;
-use tm_base::limits::MAX_FILE_BYTES;
 use tm_base::{LineFault, Name, Path};
 use tm_copy::{base_child, kept_file};
 use tm_store::Store;
@@ -216,12 +215,12 @@ fn stage_file<W: World>(
 ) -> Result<Blob, LineFault>
     requires may { MayGo W.told volume.now store.old (now (W.log world.old)) (W.blocks world.old Side.Volume) (W.blocks world.old Side.Store) }
     requires file { (bytes : ℕ → List ℕ) → IsFileOf size (item_at (tree_on volume.now bytes) place.now) }
+    requires small { size ≤ max_file_bytes }
     ensures ran { Ran W.told volume.now volume.now store.old store.new (W.log world.old) (W.log world.new) }
     ensures went { UnlessFault result (Went W.told store.old store.new (W.log world.old) (W.log world.new)) }
     ensures stages { Stages (store_blocks store.old.machine store.old.snapshots store.old.nodes) (free_of store.old.image) (free_of store.new.image) (blob_len size ∷ []) result }
     ensures holds { W.told → IfOk result (λ blob. IfSome (item_at (tree_on volume.now (volume_bytes (W.log world.old))) place.now) (λ e. bytes_in blob.blocks (store_bytes (W.log world.new)) 0 blob.length ≡ bytes_of e)) }
     ensures length { IfOk result (λ blob. blob.length ≡ size) }
-    ensures small { IfOk result (λ blob. size ≤ max_file_bytes) }
     ensures many { IfOk result (λ blob. length blob.blocks ≡ blob_len size) }
     ensures staged { IfOk result (λ blob. store.new.staged ≡ store.old.staged ++ blob.blocks) }
     ensures blocks { W.blocks world.new ≡ W.blocks world.old }
@@ -233,7 +232,7 @@ fn stage_file<W: World>(
     store.stage_file(world, bytes.as_slice())
 }
 
-/// The bytes of a file of the volume. Longer files than there may be take more memory than there is.
+/// The bytes of a file of the volume.
 fn read_file<W: World>(
     alloc: Global,
     world: &mut W,
@@ -243,18 +242,15 @@ fn read_file<W: World>(
 ) -> Result<Bytes, LineFault>
     requires ready { IsReady volume.now (W.blocks world.old Side.Volume) }
     requires file { (bytes : ℕ → List ℕ) → IsFileOf size (item_at (tree_on volume.now bytes) place.now) }
+    requires small { size ≤ max_file_bytes }
     ensures bytes { W.told → IfOk result (λ read. IfSome (item_at (tree_on volume.now (volume_bytes (W.log world.old))) place.now) (λ e. read ≡ bytes_of e)) }
     ensures length { IfOk result (λ read. length read ≡ size) }
-    ensures small { IfOk result (λ read. size ≤ max_file_bytes) }
     ensures refused { (why : Refused) → result ≡ Err (LineFault.Refused why) → ⊥ }
     ensures steps { W.told → Steps (W.log world.old) (W.log world.new) (now (W.log world.old)) }
     ensures blocks { W.blocks world.new ≡ W.blocks world.old }
     ensures never_less { NeverLess (W.faults world.old) (W.faults world.new) }
     ensures fault { Blames result (W.faults world.old) (W.faults world.new) }
 {
-    if size > MAX_FILE_BYTES {
-        return Err(LineFault::Memory);
-    }
     let mut bytes = vec![in alloc; 0u8; size as usize]?;
     match volume.read_part(world, place, 0, bytes.as_mut_slice()) {
         Ok(()) => Ok(Bytes::of(bytes)),

@@ -31,6 +31,7 @@ use Rattle.tm_tree.specs.Refusing.{first_refused}
 use Rattle.tm_changes.specs.Attributes.{attrs_after, attrs_tests, extras_after, count_with, reset_body, body_stamps}
 use Rattle.tm_volume_records.specs.Records.{item_with}
 use Rattle.tm_volume_records.specs.Rules.{HasData, HasStamp}
+use Rattle.tm_base.specs.Limits.{max_extras, max_value_bytes}
 
 -- ---- lists
 
@@ -63,7 +64,7 @@ length_with (e ∷ es) k v s =
       | Greater ↦ λ is. one_more (is_some (value_of k es)) (length es) (length (with_extra k v es)) (length_with es k v s.1)
     ] refl
 
-pub each_with : (es : Values) (k v : List ℕ) → IsName k → length v ≤ 4096 → All IsExtra es → All IsExtra (with_extra k v es)
+pub each_with : (es : Values) (k v : List ℕ) → IsName k → length v ≤ max_value_bytes → All IsExtra es → All IsExtra (with_extra k v es)
 each_with [] k v name short all = all_both IsExtra (k, v) [] (record { name = name; value = short }) all
 each_with (e ∷ es) k v name short all =
     elim (name_cmp k e.0) as (λ r. All IsExtra (match_ordering r ((k, v) ∷ e ∷ es) ((e.0, v) ∷ es) (e ∷ insert_entry name_cmp es k v))) [
@@ -139,16 +140,16 @@ still_included other a out passes = out
 
 -- ---- the number of extras
 
-few_with : (n : ℕ) (b : Bool) → cond (nat_lt most_extras n) (Some (TooMany n)) (cond b (Some RootItem) None) ≡ None → n ≤ 16
-few_with n b h = elim (nat_lt most_extras n) as (λ t. nat_lt most_extras n ≡ t → cond t (Some (TooMany n)) (cond b (Some RootItem) None) ≡ None → n ≤ 16) [
+few_with : (n : ℕ) (b : Bool) → cond (nat_lt most_extras n) (Some (TooMany n)) (cond b (Some RootItem) None) ≡ None → n ≤ max_extras
+few_with n b h = elim (nat_lt most_extras n) as (λ t. nat_lt most_extras n ≡ t → cond t (Some (TooMany n)) (cond b (Some RootItem) None) ≡ None → n ≤ max_extras) [
   | true ↦ λ is g. cc
   | false ↦ λ is g. not_more n is
 ] refl h
   where
-    not_more : (k : ℕ) → nat_lt 16 k ≡ false → k ≤ 16
+    not_more : (k : ℕ) → nat_lt max_extras k ≡ false → k ≤ max_extras
     not_more k is = grind (arith, nat_tests)
 
-pub few_after : (c : Change) (root : Bool) (a : Attrs) → length a.extra ≤ 16 → first_refused (attrs_tests c root a) ≡ None → extras_after c a ≤ 16
+pub few_after : (c : Change) (root : Bool) (a : Attrs) → length a.extra ≤ max_extras → first_refused (attrs_tests c root a) ≡ None → extras_after c a ≤ max_extras
 few_after (change.Setx q name value) root a few passes = few_with (count_with name a) (root && same_name name exclusion) passes
 few_after other root a few passes = few
 

@@ -67,7 +67,7 @@ back_twice a b c one two = record {
 
 module _ (m n : Seen) (back : IsBack m n) where
   edit_with : (used : List ℕ) (e : Edit) → IsEdit m e → IsEdit (Restaged m used) e
-  edit_with used e is = record { rising = is.rising; put = is.put; head = is.head; next_least = is.next_least; next_most = is.next_most; sound = is.sound; free = is.free; index_is = is.index_is }
+  edit_with used e is = record { rising = is.rising; put = is.put; lengths = is.lengths; head = is.head; next_least = is.next_least; next_most = is.next_most; sound = is.sound; free = is.free; index_is = is.index_is }
 
   good_with : (used : List ℕ) (e : Edit) (bytes : ℕ → List ℕ) → IsGoodEdit m e bytes → IsGoodEdit (Restaged m used) e bytes
   good_with used e bytes is = record { good = is.good; fixed = is.fixed }

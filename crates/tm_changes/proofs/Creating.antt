@@ -27,6 +27,7 @@ use Rattle.tm_changes.proofs.Making.{IsAsked, is_edit, is_good, stored_is}
 use Rattle.tm_changes.proofs.Planning.{makes_change}
 use Rattle.tm_volume.proofs.Rooms.{head_record}
 use Rattle.tm_volume.proofs.Counting.{known_on}
+use Rattle.tm_base.specs.Limits.{max_names}
 
 -- it stages nothing
 stages_none : (v : Contents) (p : Names) (item : NewItem) → staged_len v (making p item) ≡ 0
@@ -40,7 +41,7 @@ no_plan m p item moment (Fault side) h = h
 no_plan m p item moment Memory h = tt
 
 module _ (m : Seen) (s : IsShelved m) (p : Names) (item : NewItem) (moment : Option ℕ) (plan : Creation) (ready : IsCreation m p item moment plan) (n : ℕ) (e : Edit)
-    (makes : MakesPlace m e n plan.folder plan.date plan.row (last_of p) Empty) (next_is : e.next ≡ plan.next) (short : length p ≤ 64) (low : plan.date ≤ last_moment)
+    (makes : MakesPlace m e n plan.folder plan.date plan.row (last_of p) Empty) (next_is : e.next ≡ plan.next) (short : length p ≤ max_names) (low : plan.date ≤ last_moment)
     (unused : (bytes : ℕ → List ℕ) → IsUnused (items_on m bytes) n) where
   drawn : plan.next ≡ m.tag.next + 2
   drawn = ap (λ (q : Creation). q.next) ready.is

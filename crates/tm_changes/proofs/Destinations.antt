@@ -1,7 +1,8 @@
 -- Where a new item would stand.
-use Rattle.std.proofs.Common.{◌≡◌, ℕ, ◌+◌, ◌≤◌, Bool, true, false, cond, not, nat_lt, List, [], ◌∷◌, ◌++◌, length, refl, sym, ap, ◌∙◌, subst, Option, Some, None, is_some, is_none, IsSome}
+use Rattle.std.proofs.Common.{◌≡◌, ℕ, ◌+◌, ◌<◌, ◌≤◌, Bool, true, false, cond, not, nat_lt, List, [], ◌∷◌, ◌++◌, length, refl, sym, ap, ◌∙◌, subst, Option, Some, None, is_some, is_none, IsSome, arith}
 use Rattle.std.specs.Prelude.{Result}
 use Rattle.std.specs.Option.{option_map}
+use Rattle.std.proofs.lemmas.Bool.Decides.{nat_tests}
 use Rattle.tm_base.specs.Paths.{Names, parent_of}
 use Rattle.tm_base.specs.declared.refused.Refused.{Refused}
 use Rattle.tm_records.specs.Records.{Records}
@@ -99,6 +100,18 @@ folder_tests_pass (Folder k) false count moment h = (refl, refl, moment_there (n
     moment_there true why o h = cc
     moment_there false why None h = cc
     moment_there false why (Some x) h = refl
+
+-- where one item more isn't too many, there are fewer than a volume may have
+pub one_more : (count : ℕ) (rest : Option Refused) (b : Bool) → nat_lt most_items (count + 1) ≡ b → None ≡ cond b (Some (TooMany (count + 1))) rest → count < most_items
+one_more count rest true is h = cc
+one_more count rest false is h = grind (arith, nat_tests)
+
+pub folder_tests_count : (into : Destination) (there : Bool) (count : ℕ) (moment : Option ℕ) → None ≡ first_refused (folder_tests into there count moment) → count < most_items
+folder_tests_count Nowhere there count moment h = cc
+folder_tests_count NoFolder true count moment h = cc
+folder_tests_count NoFolder false count moment h = cc
+folder_tests_count (Folder k) true count moment h = cc
+folder_tests_count (Folder k) false count moment h = one_more count (first_refused (needs_moment moment)) (nat_lt most_items (count + 1)) refl h
 
 pub none_of : (o : Option Item) → is_some o ≡ false → o ≡ None
 none_of None h = refl

@@ -31,6 +31,7 @@ use Rattle.tm_volume.proofs.Metas.{meta_short}
 use Rattle.tm_volume.proofs.Changing.{at_insert, rising_insert, items_put}
 use Rattle.tm_volume.proofs.GoodRecords.{AreGood, good_put}
 use Rattle.tm_changes.proofs.Placing.{IsSpelledRow, IsHeldRow, spelled_item, spelled_placed, dated_with, dated_spelled, dated_held}
+use Rattle.tm_base.specs.Limits.{max_items}
 
 -- ---- keys apart
 
@@ -59,7 +60,7 @@ some_record : {a b : Record} → Some a ≡ Some b → a ≡ b
 some_record h = cc
 
 -- a row may be put where a record stands
-pub kept_is_put : (es : Records) (n : ℕ) (rec : Record) (row : ItemRow) → at (item_key n) es ≡ Some rec → n ≤ 65536 → IsItemRow row → IsPut es (record { key = item_key n; meta = item_text row; body = Kept })
+pub kept_is_put : (es : Records) (n : ℕ) (rec : Record) (row : ItemRow) → at (item_key n) es ≡ Some rec → n ≤ max_items → IsItemRow row → IsPut es (record { key = item_key n; meta = item_text row; body = Kept })
 kept_is_put es n rec row there hi rules = record {
   can = subst (λ (o : Option Record). CanPut Kept o) (sym there) refl;
   key = fits_key n hi;
@@ -67,14 +68,14 @@ kept_is_put es n rec row there hi rules = record {
   filled = tt;
 }
   where
-    fits_key : (a : ℕ) → a ≤ 65536 → 2 ^ 62 + a < 2 ^ 64
+    fits_key : (a : ℕ) → a ≤ max_items → 2 ^ 62 + a < 2 ^ 64
     fits_key a le = omega arith
 
 -- ---- what is known of a row
 
 module _ (es : Records) (n : ℕ) (row : ItemRow) (row_at : IsRowAt es n row) where
   -- its item
-  pub row_item : (bytes : ℕ → List ℕ) → Rising es → 1 ≤ n → n ≤ 65536 → items_in es bytes n ≡ Some (placed_with (entry_of bytes row_at.rec).bytes row)
+  pub row_item : (bytes : ℕ → List ℕ) → Rising es → 1 ≤ n → n ≤ max_items → items_in es bytes n ≡ Some (placed_with (entry_of bytes row_at.rec).bytes row)
   row_item bytes s lo hi = items_at bytes es n lo hi s ∙ ap (placed_rec bytes) row_at.at_key
       ∙ ap (option_map (placed_with (entry_of bytes row_at.rec).bytes)) (ap (item_of row_at.rec.meta) (data_length bytes row_at.rec) ∙ row_at.is)
 
@@ -131,7 +132,7 @@ module _ (es : Records) (n : ℕ) (row : ItemRow) (row_at : IsRowAt es n row) wh
       pub redone_row : IsRowAt redone n new
       redone_row = record { rec = redone_record; at_key = redone_here; is = (item_finds row_at.rec.length).again (item_text new) new (record { rules = rules; spelled = refl }) }
 
-      module _ (lo : 1 ≤ n) (hi : n ≤ 65536) where
+      module _ (lo : 1 ≤ n) (hi : n ≤ max_items) where
         pub redone_items : (bytes : ℕ → List ℕ) → Rising es → items_in redone bytes ≡ with_item (items_in es bytes) n (placed_with (entry_of bytes row_at.rec).bytes new)
         redone_items bytes s = items_put bytes es s n lo hi redone_record (placed_with (entry_of bytes row_at.rec).bytes new) (spelled_placed bytes redone_record new spelled)
 
@@ -144,10 +145,10 @@ module _ (es : Records) (n : ℕ) (row : ItemRow) (row_at : IsRowAt es n row) wh
     pub dated_rules : IsItemOfSize row_at.rec.length (dated_row row moment)
     dated_rules = (dated_spelled row_at.rec row row_at.is moment low).rules
 
-    pub dated_good : (bytes : ℕ → List ℕ) (next : ℕ) → 1 ≤ n → n ≤ 65536 → AreGood bytes next es → AreGood bytes next (redone (dated_row row moment))
+    pub dated_good : (bytes : ℕ → List ℕ) (next : ℕ) → 1 ≤ n → n ≤ max_items → AreGood bytes next es → AreGood bytes next (redone (dated_row row moment))
     dated_good bytes next lo hi good = redone_good (dated_row row moment) dated_rules lo hi bytes next good (dated_held next row_at.rec row moment (row_held bytes next good))
 
-    pub dated_items : (bytes : ℕ → List ℕ) → Rising es → 1 ≤ n → n ≤ 65536 → items_in (redone (dated_row row moment)) bytes ≡ date_item (items_in es bytes) n moment
+    pub dated_items : (bytes : ℕ → List ℕ) → Rising es → 1 ≤ n → n ≤ max_items → items_in (redone (dated_row row moment)) bytes ≡ date_item (items_in es bytes) n moment
     dated_items bytes s lo hi =
         let content = (entry_of bytes row_at.rec).bytes in
         let y : Placed = placed_with content row in

@@ -16,7 +16,7 @@ use Rattle.tm_records.specs.Records.{Records, at}
 use Rattle.tm_tree.specs.Trees.{Tree}
 use Rattle.tm_volume.specs.declared.edit.Edit.{Edit}
 use Rattle.tm_changes.specs.Changes.{with_contents}
-use Rattle.tm_volume.specs.Edits.{after, next_tag, Enters, Leaves, IsFree, IsEdit, IsGoodEdit}
+use Rattle.tm_volume.specs.Edits.{after, next_tag, Enters, Leaves, IsFree, IsEdit, IsGoodEdit, IsShortPut}
 use Rattle.tm_changes.specs.Plans.{IsGood}
 use Rattle.tm_volume_records.specs.Records.{head_key, journal_key, placings_of, items_in}
 use Rattle.tm_volume.specs.Seen.{Seen, entries_on, items_on, tree_on, stored_on, volume_on}
@@ -57,13 +57,14 @@ module _ (m : Seen) (n0 : Numbers) (on : OnShelf m n0) (e : Edit) (rs : Records)
   head_after : at head_key new_records ≡ at head_key m.image.records
   head_after = ap (at head_key) is.records ∙ is.head
 
-  pub remade_edit : IsStrictlyIncreasing e.remove.items → All (IsPut m.image.records) e.put.items
+  pub remade_edit : IsStrictlyIncreasing e.remove.items → All (IsPut m.image.records) e.put.items → All IsShortPut e.put.items
       → ((bytes : ℕ → List ℕ) (numbers : Numbers) → IsIndex (items_on m bytes) numbers → IsFree e.enter numbers)
       → ((bytes : ℕ → List ℕ) (old between new : Numbers) → IsIndex (items_on m bytes) old → Enters e.enter old between → Leaves e.leave between new → IsIndex (new_items bytes) new)
       → IsEdit m e
-  remade_edit rising puts free index = record {
+  remade_edit rising puts lengths free index = record {
     rising = rising;
     put = puts;
+    lengths = lengths;
     head = ap (option_map (λ (r : Record). volume_of r.meta)) head_after ∙ on.shelf.head_is;
     next_least = is.next_least;
     next_most = is.next_most;

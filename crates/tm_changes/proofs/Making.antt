@@ -29,6 +29,7 @@ use Rattle.tm_volume.proofs.Finding.{OnShelf}
 use Rattle.tm_volume.proofs.GoodRecords.{good_from, later_stamp}
 use Rattle.tm_changes.proofs.Placing.{IsHeldRow}
 use Rattle.tm_changes.proofs.PlaceEdits as made
+use Rattle.tm_base.specs.Limits.{max_names}
 
 no_bytes : (bytes : ℕ → List ℕ) (meta : List ℕ) → (entry_of bytes (record { meta = meta; length = 0; blocks = [] })).bytes ≡ []
 unfolding bytes_in
@@ -43,7 +44,7 @@ pub record IsAsked (m : Seen) (e : Edit) (p : Names) (n k moment next : ℕ) (ro
   pub next_is : e.next ≡ next
   pub new : IsNewRow row k (last_of p) next
   pub below : is_root p ≡ false
-  pub short : length p ≤ 64
+  pub short : length p ≤ max_names
   pub low : moment ≤ last_moment
   pub unused : (bytes : ℕ → List ℕ) → IsUnused (items_on m bytes) n
   pub into : (bytes : ℕ → List ℕ) → LeadsInto (items_on m bytes) (tree_on m bytes) p k
@@ -77,6 +78,7 @@ module _ (m : Seen) (n0 : Numbers) (on : OnShelf m n0) (e : Edit) (p : Names) (n
     called = asked.new.name;
     spelled = record { meta = refl; rules = asked.new.rules };
     filled = tt;
+    within = tt;
     can_put = tt;
     next_least = omega (arith, asked.next_is, asked.next_least);
     next_most = omega (arith, asked.next_is, asked.next_most);

@@ -34,7 +34,7 @@ use Rattle.tm_volume.specs.declared.edit.Edit.{Edit}
 use Rattle.tm_volume.specs.declared.edit.Entered.{Entered}
 use Rattle.tm_volume.specs.declared.edit.Left.{Left}
 use Rattle.tm_changes.specs.Changes.{with_contents}
-use Rattle.tm_volume.specs.Edits.{after, next_tag, Enters, Leaves, IsFree, IsEdit, IsGoodEdit}
+use Rattle.tm_volume.specs.Edits.{after, next_tag, Enters, Leaves, IsFree, IsEdit, IsGoodEdit, IsShortPut, IsShortBody}
 use Rattle.tm_changes.specs.Placing.{IsRowAt, IsPlacing, dated_row}
 use Rattle.tm_volume_records.specs.Records.{head_key, journal_key, item_key, item_with, placed_with, placings_of, items_in, entry_at}
 use Rattle.tm_volume_records.specs.Rules.{IsGoodVolume}
@@ -47,6 +47,7 @@ use Rattle.tm_volume.proofs.Changing.{at_insert, at_remove, rising_insert}
 use Rattle.tm_volume.proofs.GoodRecords.{AreGood, good_from, good_later, good_volume}
 use Rattle.tm_changes.proofs.Placing as placing
 use Rattle.tm_base.proofs.Facts.{none_some}
+use Rattle.tm_base.specs.Limits.{max_items}
 
 all_two : {X : Type 0} (P : X → Type 0) (a b : X) → P a → P b → All P (a ∷ b ∷ [])
 all_two P a b pa pb zero d lt = pa
@@ -73,13 +74,14 @@ module _ (m : Seen) (n0 : Numbers) (on : OnShelf m n0) (e : Edit) (p : Names) (n
   -- what the code has seen to
   pub record IsReadyPlace : Type 0 where
     pub can : (bytes : ℕ → List ℕ) → CanPlace (items_on m bytes) (tree_on m bytes) p n k
-    pub number : (1 ≤ n) × (n ≤ 65536)
-    pub into : (1 ≤ k) × (k ≤ 65536)
+    pub number : (1 ≤ n) × (n ≤ max_items)
+    pub into : (1 ≤ k) × (k ≤ max_items)
     pub low : moment ≤ last_moment
     pub parent : new.parent ≡ k
     pub called : new.name ≡ Some (last_of p)
     pub spelled : placing.IsSpelledRow first new
     pub filled : IsFilled content
+    pub within : IsShortBody content
     pub can_put : CanPut content (at (item_key n) es)
     pub next_least : m.tag.next ≤ e.next
     pub next_most : e.next ≤ 2 ^ 62
@@ -152,7 +154,7 @@ module _ (m : Seen) (n0 : Numbers) (on : OnShelf m n0) (e : Edit) (p : Names) (n
         ap (at journal_key) changed_is
         ∙ at_remove es2 journal_key journal_key (rising_insert es1 (item_key k) second (rising_insert es (item_key n) first on.rising))
 
-    fits_key : (a : ℕ) → a ≤ 65536 → 2 ^ 62 + a < 2 ^ 64
+    fits_key : (a : ℕ) → a ≤ max_items → 2 ^ 62 + a < 2 ^ 64
     fits_key a le = omega arith
 
     first_put : IsPut es (record { key = item_key n; meta = item_text new; body = content })
@@ -176,6 +178,7 @@ module _ (m : Seen) (n0 : Numbers) (on : OnShelf m n0) (e : Edit) (p : Names) (n
     is_edit = record {
       rising = subst (λ xs. IsStrictlyIncreasing xs) (sym is.remove) (one_rises journal_key);
       put = subst (λ (ps : List Put). All (IsPut es) ps) (sym is.put) (all_two (IsPut es) _ _ first_put second_put);
+      lengths = subst (λ (ps : List Put). All IsShortPut ps) (sym is.put) (all_two IsShortPut _ _ (λ n least key. ready.within) (λ n least key. tt));
       head = ap (option_map (λ (r : Record). volume_of r.meta)) at_head ∙ on.shelf.head_is;
       next_least = ready.next_least;
       next_most = ready.next_most;

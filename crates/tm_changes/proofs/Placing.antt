@@ -34,6 +34,7 @@ use Rattle.tm_volume_records.proofs.Slots.{Rising, items_at, placed_rec}
 use Rattle.tm_volume.proofs.Rooms.{data_length}
 use Rattle.tm_volume.proofs.Changing.{at_insert, rising_insert, rising_remove, items_put, items_without}
 use Rattle.tm_volume.proofs.GoodRecords.{AreGood, good_put, good_remove}
+use Rattle.tm_base.specs.Limits.{max_items}
 
 -- ---- a put record
 
@@ -138,7 +139,7 @@ module _ (es : Records) (s : Rising es) (n k moment : ℕ) (new folder : ItemRow
   rising_after = rising_remove (insert_entry nat_cmp (insert_entry nat_cmp es (item_key n) first) (item_key k) second) journal_key
       (rising_insert (insert_entry nat_cmp es (item_key n) first) (item_key k) second (rising_insert es (item_key n) first s))
 
-  module _ (lo : 1 ≤ n) (hi : n ≤ 65536) (klo : 1 ≤ k) (khi : k ≤ 65536) (low : moment ≤ last_moment) (first_is : IsSpelledRow first new) where
+  module _ (lo : 1 ≤ n) (hi : n ≤ max_items) (klo : 1 ≤ k) (khi : k ≤ max_items) (low : moment ≤ last_moment) (first_is : IsSpelledRow first new) where
     second_is : IsSpelledRow second (dated_row folder moment)
     second_is = dated_spelled row_at.rec folder row_at.is moment low
 

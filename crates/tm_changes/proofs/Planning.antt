@@ -38,6 +38,7 @@ use Rattle.tm_volume_records.specs.Records.{item_with}
 use Rattle.tm_volume.specs.Stored.{StoredVolume}
 use Rattle.tm_changes.proofs.Backing.{refused_first, passed_first}
 use Rattle.tm_nodes.proofs.Fields.{name_had}
+use Rattle.tm_base.specs.Limits.{max_items}
 
 -- ---- its row
 
@@ -51,7 +52,7 @@ none_rise = tt
 pub new_attrs_are : (mode date : ℕ) → mode ≤ 4095 → date ≤ last_moment → IsAttrs (new_attrs mode date)
 new_attrs_are mode date few low = record { mode = few; uid = omega arith; gid = omega arith; modified = low; few = omega arith; each = no_extras; rising = none_rise }
 
-pub new_row : (p : Names) (item : NewItem) (folder date drawn : ℕ) → IsChange (making p item) → folder ≤ 65536 → IsName (last_of p) → date ≤ last_moment → 1 ≤ drawn → drawn + 2 ≤ 2 ^ 62
+pub new_row : (p : Names) (item : NewItem) (folder date drawn : ℕ) → IsChange (making p item) → folder ≤ max_items → IsName (last_of p) → date ≤ last_moment → 1 ≤ drawn → drawn + 2 ≤ 2 ^ 62
     → IsNewRow (creation_of p item folder date drawn).row folder (last_of p) (drawn + 2)
 new_row p new.Folder folder date drawn can few named low some most = record {
   rules = record { rules = record { parent = omega arith; name = named; attrs = new_attrs_are 493 date (omega arith) low; tail = tt }; size_is = tt };

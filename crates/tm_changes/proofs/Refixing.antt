@@ -40,7 +40,7 @@ use Rattle.tm_volume.specs.declared.edit.Edit.{Edit}
 use Rattle.tm_volume.specs.declared.edit.Entered.{Entered}
 use Rattle.tm_volume.specs.declared.edit.Left.{Left}
 use Rattle.tm_changes.specs.Changes.{changed as made}
-use Rattle.tm_volume.specs.Edits.{after, next_tag, Enters, Leaves, IsFree, IsEdit, IsGoodEdit}
+use Rattle.tm_volume.specs.Edits.{after, next_tag, Enters, Leaves, IsFree, IsEdit, IsGoodEdit, IsShortPut}
 use Rattle.tm_changes.specs.Fixings.{fixing_tests, SetsFixed}
 use Rattle.tm_changes.specs.Plans.{IsGood}
 use Rattle.tm_changes.specs.Fitting.{staged_len}
@@ -55,6 +55,7 @@ use Rattle.tm_volume.proofs.Finding.{OnShelf, are_on}
 use Rattle.tm_volume.proofs.GoodRecords.{AreGood, IsGoodRecord, good_from, good_later, good_put, good_remove, good_volume}
 use Rattle.tm_volume_records.proofs.Slots.{Rising, entry_is, numbered_on}
 use Rattle.tm_base.proofs.Facts.{all_one}
+use Rattle.tm_base.specs.Limits.{max_events}
 
 -- ---- what such a change is
 
@@ -195,6 +196,7 @@ module _ (m : Seen) (n0 : Numbers) (on : OnShelf m n0) (c : Change) (e0 : Edit) 
     is_edit = record {
       rising = subst (λ xs. IsStrictlyIncreasing xs) (sym remove_is) (one_rises journal_key);
       put = subst (λ (ps : List Put). All (IsPut es) ps) (sym put_is) (all_one (IsPut es) _ first_put);
+      lengths = subst (λ (ps : List Put). All IsShortPut ps) (sym put_is) (all_one IsShortPut _ (λ n least key. absurd (omega (arith, key, least))));
       head = ap (option_map (λ (r : Record). volume_of r.meta)) head_after ∙ ap Some head_reads;
       next_least = omega (arith, next_is);
       next_most = omega (arith, next_is, asked.next_most);
@@ -220,7 +222,7 @@ module _ (m : Seen) (n0 : Numbers) (on : OnShelf m n0) (c : Change) (e0 : Edit) 
         | inl h ↦ record {
           head = m.head;
           meta = head_reads;
-          capacity = subst (λ (x : VolumeHead). (1 ≤ x.capacity) × (x.capacity ≤ 65536)) (same_head h.1.meta old.2) h.1.capacity;
+          capacity = subst (λ (x : VolumeHead). (1 ≤ x.capacity) × (x.capacity ≤ max_events)) (same_head h.1.meta old.2) h.1.capacity;
           fixed = new;
           bytes = paths_are;
         }

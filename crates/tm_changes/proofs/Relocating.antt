@@ -37,6 +37,7 @@ use Rattle.tm_volume.proofs.Finding.{OnShelf, are_on}
 use Rattle.tm_changes.proofs.Lacking.{stops}
 use Rattle.tm_changes.proofs.Planning.{not_root}
 use Rattle.tm_changes.proofs.Destinations.{goes_is}
+use Rattle.tm_base.specs.Limits.{max_names}
 
 -- ---- rows that no test finds
 
@@ -68,13 +69,13 @@ not_less a b le = grind (arith, nat_tests)
 
 -- ---- how far what is moved reaches
 
-module _ (m : Seen) (n0 : Numbers) (on : OnShelf m n0) (a b : Names) (n : ℕ) (found : (bytes : ℕ → List ℕ) → FoundAt (items_on m bytes) (tree_on m bytes) a n) (few : length b ≤ 64)
-    (deep : Bool) (reach : Reaches n0 n (65 - length b) deep) where
+module _ (m : Seen) (n0 : Numbers) (on : OnShelf m n0) (a b : Names) (n : ℕ) (found : (bytes : ℕ → List ℕ) → FoundAt (items_on m bytes) (tree_on m bytes) a n) (few : length b ≤ max_names)
+    (deep : Bool) (reach : Reaches n0 n (max_names + 1 - length b) deep) where
   abbrev passes : Names → Bool
-  passes p = nat_lt 64 (length b + (length p - length a))
+  passes p = nat_lt max_names (length b + (length p - length a))
 
   -- all that is moved stands under few enough names
-  pub short_there : deep ≡ false → (bytes : ℕ → List ℕ) (rest : Names) → is_some (item_at (tree_on m bytes) (a ++ rest)) ≡ true → length b + length rest ≤ 64
+  pub short_there : deep ≡ false → (bytes : ℕ → List ℕ) (rest : Names) → is_some (item_at (tree_on m bytes) (a ++ rest)) ≡ true → length b + length rest ≤ max_names
   short_there shallow bytes rest there =
       let items = items_on m bytes in
       let are = are_on m n0 on bytes in
@@ -83,27 +84,27 @@ module _ (m : Seen) (n0 : Numbers) (on : OnShelf m n0) (a b : Names) (n : ℕ) (
       let parts = walk_parts items 1 s.number a rest s.walks in
       let same : parts.0 ≡ n = one_number items (one_each items are.sound) 1 parts.0 n a parts.1 (found bytes).walks in
       let walks : Walks items n rest s.number = subst (λ (k : ℕ). Walks items k rest s.number) same parts.2 in
-      let lt : length rest < 65 - length b = nothing_down items n0 (on.shelf.index_is bytes) n (65 - length b) (subst (λ d. Reaches n0 n (65 - length b) d) shallow reach) rest s.number walks in
+      let lt : length rest < max_names + 1 - length b = nothing_down items n0 (on.shelf.index_is bytes) n (max_names + 1 - length b) (subst (λ d. Reaches n0 n (max_names + 1 - length b) d) shallow reach) rest s.number walks in
       omega (arith, lt, few)
 
   far_there : deep ≡ true → (bytes : ℕ → List ℕ) → is_too_deep (tree_on m bytes) a b ≡ true
   far_there far bytes =
       let items = items_on m bytes in
       let are = are_on m n0 on bytes in
-      let r = reached_down items n0 (on.shelf.index_is bytes) n (65 - length b) (subst (λ d. Reaches n0 n (65 - length b) d) far reach) in
+      let r = reached_down items n0 (on.shelf.index_is bytes) n (max_names + 1 - length b) (subst (λ d. Reaches n0 n (max_names + 1 - length b) d) far reach) in
       let rest : Names = r.0 in
       let walks : Walks items 1 (a ++ rest) r.2.0 = walks_on items 1 n r.2.0 a rest (found bytes).walks r.2.1 in
       let y = from_root items are.sound r.2.0 (a ++ rest) walks in
-      let long : 64 < length b + (length (a ++ rest) - length a) = omega (arith, length-append a rest, r.1, few) in
+      let long : max_names < length b + (length (a ++ rest) - length a) = omega (arith, length-append a rest, r.1, few) in
       any_row passes (is_prefix a) (tree_on m bytes) (a ++ rest) y.0.item (stands_at items (tree_on m bytes) are (a ++ rest) r.2.0 y.0 walks y.1)
-      (is_prefix_of_append a (a ++ rest) rest refl) (is_less 64 (length b + (length (a ++ rest) - length a)) long)
+      (is_prefix_of_append a (a ++ rest) rest refl) (is_less max_names (length b + (length (a ++ rest) - length a)) long)
 
   near_there : deep ≡ false → (bytes : ℕ → List ℕ) → is_too_deep (tree_on m bytes) a b ≡ false
   near_there shallow bytes = no_row passes (is_prefix a) (tree_on m bytes) (λ p there beneath.
       let apart : p ≡ a ++ drop (length a) p = prefix_is a p beneath in
       let le = short_there shallow bytes (drop (length a) p) (subst (λ (q : Names). is_some (item_at (tree_on m bytes) q) ≡ true) apart there) in
       let len : length p ≡ length a + length (drop (length a) p) = ap length apart ∙ length-append a (drop (length a) p) in
-      not_less 64 (length b + (length p - length a)) (omega (arith, le, len)))
+      not_less max_names (length b + (length p - length a)) (omega (arith, le, len)))
 
   pub depth_is : (bytes : ℕ → List ℕ) → is_too_deep (tree_on m bytes) a b ≡ deep
   depth_is bytes = by_depth deep refl
@@ -141,8 +142,8 @@ pub record IsShift (m : Seen) (n0 : Numbers) (a b : Names) (n k : ℕ) (c : Chan
   pub into : (bytes : ℕ → List ℕ) → LeadsInto (items_on m bytes) (tree_on m bytes) b k
   pub none : (bytes : ℕ → List ℕ) → item_at (tree_on m bytes) b ≡ None
   pub apart : is_prefix a b ≡ false
-  pub few : length b ≤ 64
-  pub reach : Reaches n0 n (65 - length b) deep
+  pub few : length b ≤ max_names
+  pub reach : Reaches n0 n (max_names + 1 - length b) deep
 
 module _ (m : Seen) (n0 : Numbers) (a b : Names) (n k : ℕ) (c : Change) (deep : Bool) (is : IsShift m n0 a b n k c deep) where
   -- the tests that are left

@@ -29,7 +29,7 @@ use Rattle.tm_volume.specs.declared.edit.Edit.{Edit}
 use Rattle.tm_volume.specs.declared.edit.Entered.{Entered}
 use Rattle.tm_volume.specs.declared.edit.Left.{Left}
 use Rattle.tm_changes.specs.Changes.{changed as changed_by, with_contents}
-use Rattle.tm_volume.specs.Edits.{after, Enters, Leaves, IsFree, IsEdit, IsGoodEdit}
+use Rattle.tm_volume.specs.Edits.{after, Enters, Leaves, IsFree, IsEdit, IsGoodEdit, IsShortPut}
 use Rattle.tm_changes.specs.Placing.{dated_row}
 use Rattle.tm_changes.specs.Plans.{BringNone, IsGood}
 use Rattle.tm_volume_records.specs.Records.{head_key, journal_key, item_key, placed_with, items_in}
@@ -44,6 +44,7 @@ use Rattle.tm_volume.proofs.GoodRecords.{good_remove}
 use Rattle.tm_changes.proofs.ItemRecords.{apart_low, row_item, redone, redone_puts, redone_rising, redone_low, kept_is_put, dated_rules, dated_good, dated_items}
 use Rattle.tm_changes.proofs.KnownEdits.{IsRemade, remade_edit, remade_good, remade_stored}
 use Rattle.tm_base.proofs.Facts.{false_true, all_one}
+use Rattle.tm_base.specs.Limits.{max_items}
 
 itself : (x : ℕ) → (x == x) ≡ true
 itself x = grind (arith, nat_tests)
@@ -83,7 +84,7 @@ module _ (m : Seen) (n0 : Numbers) (on : OnShelf m n0) (p : Names) (n moment nex
   are : (bytes : ℕ → List ℕ) → Are (items_on m bytes) (tree_on m bytes)
   are bytes = are_on m n0 on bytes
 
-  range : (1 ≤ n) × (n ≤ 65536)
+  range : (1 ≤ n) × (n ≤ max_items)
   range = held.range m n0 on p n loose.found
 
   placed : (bytes : ℕ → List ℕ) → items_on m bytes n ≡ Some (placed_with (entry_of bytes is.old_at.rec).bytes is.old)
@@ -92,7 +93,7 @@ module _ (m : Seen) (n0 : Numbers) (on : OnShelf m n0) (p : Names) (n moment nex
   folder_walks : (bytes : ℕ → List ℕ) → Walks (items_on m bytes) 1 (parent_of p) k
   folder_walks = held.folder_walks m n0 on p n loose.found loose.below is.old is.old_at
 
-  folder_range : (1 ≤ k) × (k ≤ 65536)
+  folder_range : (1 ≤ k) × (k ≤ max_items)
   folder_range = held.folder_range m n0 on p n loose.found loose.below is.old is.old_at
 
   not_root : (n == 1) ≡ false
@@ -162,6 +163,7 @@ module _ (m : Seen) (n0 : Numbers) (on : OnShelf m n0) (p : Names) (n moment nex
   removal_edit = remade_edit m n0 on e es3 (λ bytes. removed_items (items_on m bytes) n k moment) (λ bytes. remove_at (tree_on m bytes) p moment) remade
       (subst (λ xs. IsStrictlyIncreasing xs) (sym is.remove) (two_rise journal_key (item_key n) (omega arith)))
       (subst (λ (ps : List Put). All (IsPut es) ps) (sym is.put) (all_one (IsPut es) _ (kept_is_put es k is.folder_at.rec (dated_row is.folder moment) is.folder_at.at_key folder_range.1 sized.rules)))
+      (subst (λ (ps : List Put). All IsShortPut ps) (sym is.put) (all_one IsShortPut _ (λ a least key. tt)))
       (λ bytes numbers index. subst (λ (o : Option Entered). IsFree o numbers) (sym is.enter) tt)
       (λ bytes old between new index enters leaves.
       let same : between ≡ old = subst (λ (o : Option Entered). Enters o old between) is.enter enters in

@@ -39,7 +39,7 @@ use Rattle.tm_volume.specs.declared.edit.Entered.{Entered}
 use Rattle.tm_volume.specs.declared.edit.Left.{Left}
 use Rattle.tm_changes.specs.Attributes.{SetsAttrs, IsReset, attrs_after, attrs_tests, body_stamps, reset_row}
 use Rattle.tm_changes.specs.Changes.{changed as changed_by}
-use Rattle.tm_volume.specs.Edits.{after, next_tag, Enters, Leaves, IsFree, IsEdit, IsGoodEdit}
+use Rattle.tm_volume.specs.Edits.{after, next_tag, Enters, Leaves, IsFree, IsEdit, IsGoodEdit, IsShortPut}
 use Rattle.tm_changes.specs.Placing.{IsRowAt}
 use Rattle.tm_changes.specs.Plans.{BringNone, IsGood, Writes}
 use Rattle.tm_volume_records.specs.Records.{head_key, journal_key, item_with, placed_with, placings_of, items_in}
@@ -54,6 +54,7 @@ use Rattle.tm_changes.proofs.ItemRecords.{kept_is_put, row_item, row_rules, row_
 use Rattle.tm_volume.proofs.Rows.{number_low}
 use Rattle.tm_volume_records.proofs.Slots.{Rising, entry_is, numbered_on}
 use Rattle.tm_base.proofs.Facts.{all_one}
+use Rattle.tm_base.specs.Limits.{max_items}
 
 one_rises : (a : ℕ) → IsStrictlyIncreasing (a ∷ [])
 one_rises a k lt = absurd (omega arith)
@@ -87,7 +88,7 @@ module _ (m : Seen) (n0 : Numbers) (on : OnShelf m n0) (c : Change) (p : Names) 
   abbrev new_item : (ℕ → List ℕ) → Item
   new_item bytes = set_item c m.tag.next (old_item bytes)
 
-  range : (1 ≤ n) × (n ≤ 65536)
+  range : (1 ≤ n) × (n ≤ max_items)
   range = number_low es n (λ bytes. ap is_some (found bytes).is)
 
   placed : (bytes : ℕ → List ℕ) → items_on m bytes n ≡ Some (placed_with (text bytes) row)
@@ -185,6 +186,7 @@ module _ (m : Seen) (n0 : Numbers) (on : OnShelf m n0) (c : Change) (p : Names) 
   reset_edit = record {
     rising = subst (λ xs. IsStrictlyIncreasing xs) (sym is.remove) (one_rises journal_key);
     put = subst (λ (ps : List Put). All (IsPut es) ps) (sym is.put) (all_one (IsPut es) _ (kept_is_put es n row_at.rec new row_at.at_key range.1 rules));
+    lengths = subst (λ (ps : List Put). All IsShortPut ps) (sym is.put) (all_one IsShortPut _ (λ n least key. tt));
     head = ap (option_map (λ (r : Record). volume_of r.meta)) head_after ∙ on.shelf.head_is;
     next_least = omega (arith, is.next_is);
     next_most = omega (arith, is.next_is, most);

@@ -39,7 +39,7 @@ use Rattle.tm_world.specs.declared.bytes.Blob.{Blob}
 use Rattle.tm_volume.specs.declared.edit.Edit.{Edit}
 use Rattle.tm_volume.specs.declared.edit.Entered.{Entered}
 use Rattle.tm_volume.specs.declared.edit.Left.{Left}
-use Rattle.tm_volume.specs.Edits.{after, next_tag, Enters, Leaves, IsFree, IsEdit, IsGoodEdit}
+use Rattle.tm_volume.specs.Edits.{after, next_tag, Enters, Leaves, IsFree, IsEdit, IsGoodEdit, IsShortPut}
 use Rattle.tm_changes.specs.Placing.{IsRowAt}
 use Rattle.tm_changes.specs.Plans.{IsGood}
 use Rattle.tm_volume_records.specs.Records.{head_key, journal_key, item_key, placed_with, placings_of, items_in}
@@ -54,6 +54,7 @@ use Rattle.tm_changes.proofs.ItemRecords.{row_item}
 use Rattle.tm_volume.proofs.Rows.{number_low}
 use Rattle.tm_volume_records.proofs.Slots.{Rising, entry_is, numbered_on}
 use Rattle.tm_base.proofs.Facts.{false_true, all_one}
+use Rattle.tm_base.specs.Limits.{max_items}
 
 one_rises : (a : ℕ) → IsStrictlyIncreasing (a ∷ [])
 one_rises a k lt = absurd (omega arith)
@@ -110,7 +111,7 @@ module _ (m : Seen) (n0 : Numbers) (on : OnShelf m n0) (e0 : Edit) (p : Names) (
   abbrev text : (ℕ → List ℕ) → List ℕ
   text bytes = (entry_of bytes asked.row_at.rec).bytes
 
-  range : (1 ≤ n) × (n ≤ 65536)
+  range : (1 ≤ n) × (n ≤ max_items)
   range = number_low es n (λ bytes. ap is_some (asked.found bytes).is)
 
   placed : (bytes : ℕ → List ℕ) → items_on m bytes n ≡ Some (placed_with (text bytes) row)
@@ -205,13 +206,14 @@ module _ (m : Seen) (n0 : Numbers) (on : OnShelf m n0) (e0 : Edit) (p : Names) (
     first_put : IsPut es (record { key = item_key n; meta = item_text new; body = New blob })
     first_put = record { can = tt; key = fits_key n range.1; meta = meta_short new asked.rules.rules; filled = of.many ∙ ap blob_len (sym of.size_is) }
       where
-        fits_key : (a : ℕ) → a ≤ 65536 → 2 ^ 62 + a < 2 ^ 64
+        fits_key : (a : ℕ) → a ≤ max_items → 2 ^ 62 + a < 2 ^ 64
         fits_key a le = omega arith
 
     is_edit : IsEdit m e
     is_edit = record {
       rising = subst (λ xs. IsStrictlyIncreasing xs) (sym remove_is) (one_rises journal_key);
       put = subst (λ (ps : List Put). All (IsPut es) ps) (sym put_is) (all_one (IsPut es) _ first_put);
+      lengths = subst (λ (ps : List Put). All IsShortPut ps) (sym put_is) (all_one IsShortPut _ (λ n least key. omega (arith, of.size_is, asked.small)));
       head = ap (option_map (λ (r : Record). volume_of r.meta)) head_after ∙ on.shelf.head_is;
       next_least = omega (arith, next_is);
       next_most = omega (arith, next_is, asked.next_most);

@@ -30,6 +30,7 @@ use Rattle.tm_volume.proofs.Finding.{OnShelf}
 use Rattle.tm_changes.proofs.ItemRecords.{row_item, row_rules}
 use Rattle.tm_volume.proofs.Rows.{number_low}
 use Rattle.tm_changes.proofs.Destinations.{row_stands}
+use Rattle.tm_base.specs.Limits.{max_items, max_extras}
 
 same_placed : {a b : Placed} → Some a ≡ Some b → a ≡ b
 same_placed h = cc
@@ -42,7 +43,7 @@ module _ (m : Seen) (n0 : Numbers) (on : OnShelf m n0) (p : Names) (n : ℕ) (fo
   pub is_there : IsThere m.image.records n
   is_there bytes = some_there (items_in m.image.records bytes n) (found bytes).placed (found bytes).is
 
-  pub in_range : (1 ≤ n) × (n ≤ 65536)
+  pub in_range : (1 ≤ n) × (n ≤ max_items)
   in_range = number_low m.image.records n (λ bytes. ap is_some (found bytes).is)
 
   module _ (row : ItemRow) (told : (bytes : ℕ → List ℕ) → option_map placed_row (items_in m.image.records bytes n) ≡ Some row) where
@@ -73,7 +74,7 @@ module _ (m : Seen) (n0 : Numbers) (on : OnShelf m n0) (p : Names) (n : ℕ) (fo
       set_denied bytes moment why is = denied (volume_on m bytes).contents c p moment sets (own bytes) (comes bytes) (stands bytes) why
           (ap (λ (a : Attrs). first_refused (attrs_tests c (is_root p) a)) (attrs_same row.body (text bytes)) ∙ is)
 
-      pub set_few : first_refused (attrs_tests c (is_root p) (item_attrs row.body)) ≡ None → extras_after c (item_attrs row.body) ≤ 16
+      pub set_few : first_refused (attrs_tests c (is_root p) (item_attrs row.body)) ≡ None → extras_after c (item_attrs row.body) ≤ max_extras
       set_few passes = few_after c (is_root p) (item_attrs row.body) own_rules.attrs.few passes
 
       module _ (touched : List Touch) (touched_is : (bytes : ℕ → List ℕ) → touched ≡ touches (tree_on m bytes) c) where

@@ -35,7 +35,7 @@ use Rattle.tm_volume.specs.declared.edit.Edit.{Edit}
 use Rattle.tm_volume.specs.declared.edit.Entered.{Entered}
 use Rattle.tm_volume.specs.declared.edit.Left.{Left}
 use Rattle.tm_changes.specs.Changes.{with_contents}
-use Rattle.tm_volume.specs.Edits.{after, Enters, Leaves, IsFree, IsEdit, IsGoodEdit}
+use Rattle.tm_volume.specs.Edits.{after, Enters, Leaves, IsFree, IsEdit, IsGoodEdit, IsShortPut}
 use Rattle.tm_changes.specs.Placing.{IsRowAt, dated_row}
 use Rattle.tm_changes.specs.Plans.{BringNone, IsGood}
 use Rattle.tm_volume_records.specs.Records.{head_key, journal_key, item_key, placed_with, items_in}
@@ -50,6 +50,7 @@ use Rattle.tm_changes.proofs.StandingItems as held
 use Rattle.tm_changes.proofs.ItemRecords.{row_rules, row_held, row_past, one_row, dated_twice, redone, redone_puts, redone_rising, redone_low, redone_row, redone_items, redone_good, kept_is_put, dated_rules, dated_good, dated_items}
 use Rattle.tm_changes.proofs.KnownEdits.{IsRemade, remade_edit, remade_good, remade_stored}
 use Rattle.tm_base.proofs.Facts.{false_true}
+use Rattle.tm_base.specs.Limits.{max_items}
 
 number_is : (a b : ℕ) → (a == b) ≡ true → a ≡ b
 number_is a b h = grind (arith, nat_tests)
@@ -75,7 +76,7 @@ apart_from items n k p q there other apart = elim (k == n) as (λ b. (k == n) �
 ] refl
 
 -- what the row of an item must be in its new place
-pub moved_is_row : (es : Records) (n k : ℕ) (row : ItemRow) (called : List ℕ) (row_at : IsRowAt es n row) → k ≤ 65536 → IsName called → IsItemOfSize row_at.rec.length (moved_row row k called)
+pub moved_is_row : (es : Records) (n k : ℕ) (row : ItemRow) (called : List ℕ) (row_at : IsRowAt es n row) → k ≤ max_items → IsName called → IsItemOfSize row_at.rec.length (moved_row row k called)
 moved_is_row es n k row called row_at high named = let r = row_rules es n row row_at in record {
   rules = record { parent = omega (arith, high); name = named; attrs = r.rules.attrs; tail = r.rules.tail };
   size_is = r.size_is;
@@ -112,7 +113,7 @@ module _ (m : Seen) (n0 : Numbers) (on : OnShelf m n0) (a b : Names) (n k moment
   are : (bytes : ℕ → List ℕ) → Are (items_on m bytes) (tree_on m bytes)
   are bytes = are_on m n0 on bytes
 
-  range : (1 ≤ n) × (n ≤ 65536)
+  range : (1 ≤ n) × (n ≤ max_items)
   range = held.range m n0 on a n can_move.found
 
   abbrev x : (ℕ → List ℕ) → Placed
@@ -124,10 +125,10 @@ module _ (m : Seen) (n0 : Numbers) (on : OnShelf m n0) (a b : Names) (n k moment
   from_walks : (bytes : ℕ → List ℕ) → Walks (items_on m bytes) 1 (parent_of a) j
   from_walks = held.folder_walks m n0 on a n can_move.found can_move.below is.old is.old_at
 
-  from_range : (1 ≤ j) × (j ≤ 65536)
+  from_range : (1 ≤ j) × (j ≤ max_items)
   from_range = held.folder_range m n0 on a n can_move.found can_move.below is.old is.old_at
 
-  into_range : (1 ≤ k) × (k ≤ 65536)
+  into_range : (1 ≤ k) × (k ≤ max_items)
   into_range = number_low es k (λ bytes. some_is (items_on m bytes k) (can_move.into bytes).stands)
     where
       some_is : (o : Option Placed) → is_some o ≡ true → IsSome o
@@ -258,6 +259,7 @@ module _ (m : Seen) (n0 : Numbers) (on : OnShelf m n0) (a b : Names) (n k moment
       (kept_is_put es n is.old_at.rec new_row is.old_at.at_key range.1 new_rules.rules)
       (kept_is_put es j is.from_at.rec (dated_row is.from moment) is.from_at.at_key from_range.1 (dated_rules es j is.from is.from_at moment low).rules)
       (kept_is_put es k is.into_at.rec (dated_row is.into moment) is.into_at.at_key into_range.1 (dated_rules es k is.into is.into_at moment low).rules)))
+      (subst (λ (ps : List Put). All IsShortPut ps) (sym is.put) (all_three IsShortPut _ _ _ (λ a least key. tt) (λ a least key. tt) (λ a least key. tt)))
       (λ bytes numbers index. subst (λ (o : Option Entered). IsFree o numbers) (sym is.enter)
       (place_free (items_on m bytes) (tree_on m bytes) numbers b k (are bytes) index can_move.below_to (can_move.into bytes).walks (can_move.none bytes)))
       (λ bytes old between new index enters leaves.

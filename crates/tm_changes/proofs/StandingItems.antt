@@ -18,6 +18,7 @@ use Rattle.tm_volume.proofs.Rows.{number_low}
 use Rattle.tm_volume.proofs.Finding.{OnShelf, are_on}
 use Rattle.tm_changes.proofs.ItemRecords.{row_item}
 use Rattle.tm_changes.proofs.Destinations.{row_stands}
+use Rattle.tm_base.specs.Limits.{max_items}
 
 same_placed : {a b : Placed} → Some a ≡ Some b → a ≡ b
 same_placed h = cc
@@ -30,7 +31,7 @@ module _ (m : Seen) (n0 : Numbers) (on : OnShelf m n0) (p : Names) (n : ℕ) (fo
   pub there : (bytes : ℕ → List ℕ) → IsSome (items_on m bytes n)
   there bytes = subst (λ (o : Option Placed). IsSome o) (sym (found bytes).is) refl
 
-  pub range : (1 ≤ n) × (n ≤ 65536)
+  pub range : (1 ≤ n) × (n ≤ max_items)
   range = number_low m.image.records n there
 
   module _ (below : is_root p ≡ false) (old : ItemRow) (old_at : IsRowAt m.image.records n old) where
@@ -52,7 +53,7 @@ module _ (m : Seen) (n0 : Numbers) (on : OnShelf m n0) (p : Names) (n : ℕ) (fo
         let y = from_root (items_on m bytes) (are_on m n0 on bytes).sound old.parent (parent_of p) (folder_walks bytes) in
         subst (λ (o : Option Placed). IsSome o) (sym y.1) refl
 
-    pub folder_range : (1 ≤ old.parent) × (old.parent ≤ 65536)
+    pub folder_range : (1 ≤ old.parent) × (old.parent ≤ max_items)
     folder_range = number_low m.image.records old.parent folder_there
 
   -- the row that is read under its number, and its folder

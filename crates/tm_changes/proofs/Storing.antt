@@ -36,6 +36,7 @@ use Rattle.tm_volume.proofs.GoodRecords.{good_from, good_later}
 use Rattle.tm_changes.proofs.ItemRecords.{row_held}
 use Rattle.tm_volume.proofs.Rows.{number_low}
 use Rattle.tm_changes.proofs.PlaceEdits as made
+use Rattle.tm_base.specs.Limits.{max_names}
 
 -- writing where nothing stands makes a file there
 pub writes_new : (t : Tree) (p : Names) (moment stamp : ℕ) (bytes : List ℕ) → item_at t p ≡ None → write_at t p moment stamp bytes ≡ place_at t p moment (new_file moment stamp bytes)
@@ -56,7 +57,7 @@ pub record IsNewFile (m : Seen) (e : Edit) (p : Names) (n k moment size : ℕ) :
   pub rules : IsItemOfSize size (new_file_row k (last_of p) moment m.tag.next size)
   pub small : size ≤ most_bytes
   pub below : is_root p ≡ false
-  pub short : length p ≤ 64
+  pub short : length p ≤ max_names
   pub low : moment ≤ last_moment
   pub unused : (bytes : ℕ → List ℕ) → IsUnused (items_on m bytes) n
   pub into : (bytes : ℕ → List ℕ) → LeadsInto (items_on m bytes) (tree_on m bytes) p k
@@ -101,6 +102,7 @@ module _ (m : Seen) (n0 : Numbers) (on : OnShelf m n0) (e0 : Edit) (p : Names) (
       called = refl;
       spelled = record { meta = refl; rules = subst (λ (x : ℕ). IsItemOfSize x row) (sym of.size_is) asked.rules };
       filled = of.many ∙ ap blob_len (sym of.size_is);
+      within = omega (arith, of.size_is, asked.small);
       can_put = tt;
       next_least = omega (arith, b.next, asked.next_is);
       next_most = omega (arith, b.next, asked.next_is, asked.next_most);

@@ -183,7 +183,7 @@ stage_meets m s blocks room c moment size e w d0 on v Memory full fault same = s
 -- ---- data that are read before
 
 pub kept_of : (m : Seen) → IsShelved m → IsKept m
-kept_of m s = record { image = s.image; side = s.shelf.side; tag_is = s.shelf.tag_is; tagged = s.shelf.tagged; head_is = s.shelf.head_is; sound = s.shelf.sound }
+kept_of m s = record { image = s.image; side = s.shelf.side; tag_is = s.shelf.tag_is; tagged = s.shelf.tagged; head_is = s.shelf.head_is; sound = s.shelf.sound; lengths = s.shelf.lengths }
 
 module _ (m : Seen) (l0 l1 : Log) (steps : Steps l0 l1 (now l0)) (leaves : LeavesSide (Some (stored_on m (disk OfVolume (now l0)).bytes)) (disk OfVolume (now l0))) where
   -- they leave the volume as it is

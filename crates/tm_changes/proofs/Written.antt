@@ -1,5 +1,5 @@
 -- What is planned for a file that gets bytes, and for the changes that give it them.
-use Rattle.std.proofs.Common.{◌≡◌, ℕ, ◌+◌, ◌^◌, ◌<◌, ◌≤◌, true, false, not, cond, nat_lt, List, [], ◌∷◌, length, refl, sym, ap, ◌∙◌, subst, Option, Some, None, Result, IsSome, is_none, arith}
+use Rattle.std.proofs.Common.{◌≡◌, ℕ, ◌+◌, ◌^◌, ◌<◌, ◌≤◌, Bool, true, false, not, cond, nat_lt, List, [], ◌∷◌, length, refl, sym, ap, ◌∙◌, subst, Option, Some, None, Result, IsSome, is_none, arith}
 use Rattle.std.specs.Option.{option_map, option_map_or}
 use Rattle.tm_base.specs.Days.{last_moment}
 use Rattle.tm_base.specs.IsName.{IsName}
@@ -25,6 +25,7 @@ use Rattle.tm_tree.specs.Trees.{Tree, item_at}
 use Rattle.tm_tree.specs.Walks.{way, way_of, way_to, is_at_file}
 use Rattle.tm_volume.specs.declared.edit.Edit.{Edit}
 use Rattle.tm_changes.specs.declared.destination.Destination.{Destination}
+use Rattle.tm_changes.specs.declared.destination.Destination.TheVariants.{Nowhere, NoFolder, Folder}
 use Rattle.tm_changes.specs.declared.target.Target.{Target}
 use Rattle.tm_changes.specs.declared.target.Target.TheVariants as target
 use Rattle.tm_changes.specs.Placing.{IsRowAt}
@@ -33,7 +34,7 @@ use Rattle.tm_changes.specs.Plans.{IsGood}
 use Rattle.tm_volume.specs.Room.{body_of, placed_row}
 use Rattle.tm_volume.specs.Seen.{Seen, entries_on, items_on, tree_on, volume_on}
 use Rattle.tm_changes.specs.Destinations.{MeetsDestination}
-use Rattle.tm_changes.specs.Targets.{EndsAt, IsFileAt, IsFileBody, MeetsTarget, body_length, target_length, target_tests}
+use Rattle.tm_changes.specs.Targets.{EndsAt, IsFileAt, IsFileBody, MeetsTarget, is_file_there, body_length, target_length, target_tests}
 use Rattle.tm_changes.specs.Writes.{write_tests, new_file_row, redone_row, WritesFile}
 use Rattle.tm_volume_records.specs.Records.{item_key, journal_key, IsThere}
 use Rattle.tm_volume_records.specs.Rules.{HasData, IsGoodVolume}
@@ -43,11 +44,12 @@ use Rattle.tm_changes.proofs.Results.{on_shelf_of}
 use Rattle.tm_changes.proofs.Planning.{new_attrs_are}
 use Rattle.tm_changes.proofs.ItemRecords.{row_rules, row_held}
 use Rattle.tm_changes.proofs.Rewriting.{rewrites_file}
-use Rattle.tm_changes.proofs.Destinations.{goes_is, row_stands}
+use Rattle.tm_changes.proofs.Destinations.{goes_is, one_more, row_stands}
+use Rattle.tm_base.specs.Limits.{max_items}
 
 -- ---- the rows
 
-pub new_file_is : (k : ℕ) (called : List ℕ) (moment stamp size : ℕ) → k ≤ 65536 → IsName called → moment ≤ last_moment → stamp < 2 ^ 64 → IsItemOfSize size (new_file_row k called moment stamp size)
+pub new_file_is : (k : ℕ) (called : List ℕ) (moment stamp size : ℕ) → k ≤ max_items → IsName called → moment ≤ last_moment → stamp < 2 ^ 64 → IsItemOfSize size (new_file_row k called moment stamp size)
 new_file_is k called moment stamp size few named low fits = record {
   rules = record { parent = omega arith; name = named; attrs = new_attrs_are 420 moment (omega arith) low; tail = fits };
   size_is = refl;
@@ -155,6 +157,25 @@ pub file_decides : (m : Seen) (p : Names) (into : Destination) (there : Target) 
 file_decides m p into there count size next moment goes meets many is bytes good =
     target_decides (items_on m bytes) (volume_on m bytes).contents p into there count size moment (goes bytes) (meets bytes).0 (many bytes good.good)
     ∙ ap (λ (k : ℕ). first_refused (target_tests into there count size moment k)) (sym is)
+
+-- where none refuses a new file there are fewer items than a volume may have
+pub file_fewer : (into : Destination) (there : Target) (count size : ℕ) (moment : Option ℕ) (next : ℕ) → None ≡ first_refused (target_tests into there count size moment next) → is_file_there there ≡ false → count < most_items
+file_fewer Nowhere there count size moment next h none = cc
+file_fewer NoFolder target.Nothing count size moment next h none = cc
+file_fewer NoFolder target.Folder count size moment next h none = cc
+file_fewer NoFolder target.Link count size moment next h none = cc
+file_fewer NoFolder (target.File n row) count size moment next h none = cc
+file_fewer (Folder k) target.Folder count size moment next h none = cc
+file_fewer (Folder k) target.Link count size moment next h none = cc
+file_fewer (Folder k) (target.File n row) count size moment next h none = cc
+file_fewer (Folder k) target.Nothing count size moment next h none = by_size (nat_lt most_bytes size) h
+  where
+    rest : Option Refused
+    rest = first_refused ((is_none moment, NoMoment) ∷ (nat_lt (2 ^ 62) (next + 2), IdsSpent) ∷ [])
+
+    by_size : (b : Bool) → None ≡ cond b (Some (TooLong size)) (cond (nat_lt most_items (count + 1)) (Some (TooMany (count + 1))) rest) → count < most_items
+    by_size true h = cc
+    by_size false h = one_more count rest (nat_lt most_items (count + 1)) refl h
 
 -- ---- what stands there
 

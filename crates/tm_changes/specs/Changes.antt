@@ -11,6 +11,7 @@ use Rattle.tm_tree.specs.Refusing.{Tests, first_refused}
 use Rattle.tm_tree.specs.States.{VolumeState}
 use Rattle.tm_changes.specs.Fitting.{room_tests, staged_len}
 use Rattle.tm_volume.specs.Stored.{StoredVolume}
+use Rattle.tm_base.specs.Limits.{max_value_bytes}
 
 abbrev pub with_contents : VolumeState → Contents → VolumeState
 with_contents v c = record { name = v.name; id = v.id; capacity = v.capacity; generation = v.generation; contents = c }
@@ -36,5 +37,5 @@ after_change blocks s c moment = unless (first_refused (change_tests blocks s c 
 abbrev pub IsChange : Change → Type 0
 IsChange (change.Ln p target) = IsTarget target
 IsChange (change.Chmod p mode) = mode ≤ 4095
-IsChange (change.Setx p name value) = length value ≤ 4096
+IsChange (change.Setx p name value) = length value ≤ max_value_bytes
 IsChange _ = Unit {0}

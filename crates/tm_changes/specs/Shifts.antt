@@ -16,6 +16,7 @@ use Rattle.tm_volume_records.specs.Records.{journal_key, item_key}
 use Rattle.tm_volume.specs.Seen.{Seen, items_on, tree_on}
 use Rattle.tm_changes.specs.declared.destination.Destination.{Destination}
 use Rattle.tm_changes.specs.Destinations.{LeadsInto, goes_nowhere, goes_into_folder}
+use Rattle.tm_base.specs.Limits.{max_names}
 
 -- a row in another place
 abbrev pub moved_row : ItemRow → ℕ → List ℕ → ItemRow
@@ -30,7 +31,7 @@ pub record IsMovable (m : Seen) (a b : Names) (n k : ℕ) : Type 0 where
   pub below_to : is_root b ≡ false
   pub none : (bytes : ℕ → List ℕ) → item_at (tree_on m bytes) b ≡ None
   pub apart : is_prefix a b ≡ false
-  pub short : (bytes : ℕ → List ℕ) (rest : Names) → is_some (item_at (tree_on m bytes) (a ++ rest)) ≡ true → length b + length rest ≤ 64
+  pub short : (bytes : ℕ → List ℕ) (rest : Names) → is_some (item_at (tree_on m bytes) (a ++ rest)) ≡ true → length b + length rest ≤ max_names
 
 -- n leaves its folder for the folder k; both are dated, and may be the same; the journal is no longer kept
 pub record Shifts (m : Seen) (a b : Names) (n k moment : ℕ) (e : Edit) : Type 0 where

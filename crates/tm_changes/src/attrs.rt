@@ -9,20 +9,16 @@ ghost use Rattle.tm_changes.specs.Attributes.{SetsAttrs, IsReset, attrs_after, a
 ghost use Rattle.tm_changes.specs.Changes.{IsChange};
 ghost use Rattle.tm_changes.specs.Plans.{Plans};
 ghost use Rattle.tm_volume.specs.Seen.{tree_on};
+ghost use Rattle.tm_base.specs.Limits.{max_items, max_extras, max_value_bytes};
 
 use std::alloc::{AllocError, Global};
+use tm_base::limits::MAX_EXTRAS;
 use tm_base::{LineFault, Name, Path, Refused};
 use tm_records::{Body, Put};
 use tm_tree::{Attrs, Change, ItemBody, ItemRow, LeafRow, Touches, is_exclusion};
-use tm_volume::{Edit, Volume, meta_of};
+use tm_volume::{Edit, MAX_NEXT, Volume, meta_of};
 use tm_volume_records::{ITEM_KEY, JOURNAL_KEY};
 use tm_world::Bytes;
-
-/// Extras of an item.
-const MOST_EXTRAS: u128 = 16;
-
-/// The greatest next number.
-const MOST_NEXT: u128 = 1 << 62;
 
 /// The attributes of an item.
 fn attrs_of(body: &ItemBody) -> &Attrs
@@ -65,7 +61,7 @@ fn attrs_refusal(attrs: &Attrs, change: &Change, root: bool) -> Option<Refused>
     match change {
         Change::Setx { name, .. } => {
             let count = count_with(attrs, name);
-            if count > MOST_EXTRAS {
+            if count > MAX_EXTRAS as u128 {
                 Some(Refused::TooMany { count })
             } else if root && is_exclusion(name) {
                 Some(Refused::RootItem)
@@ -86,9 +82,9 @@ fn attrs_refusal(attrs: &Attrs, change: &Change, root: bool) -> Option<Refused>
 
 /// The attributes with this extra.
 fn set_extra(mut attrs: Attrs, name: &Name, value: &Bytes) -> Result<Attrs, AllocError>
-    requires value { length value.now ≤ 4096 }
+    requires value { length value.now ≤ max_value_bytes }
     requires attrs { IsAttrs attrs }
-    requires few { count_with name.now attrs ≤ 16 }
+    requires few { count_with name.now attrs ≤ max_extras }
     ensures value { IfOk result (λ new. new ≡ record attrs { extra = with_extra name.now value.now attrs.extra }) }
     ensures rules { IfOk result IsAttrs }
 {
@@ -115,7 +111,7 @@ fn remove_extra(mut attrs: Attrs, name: &Name) -> Attrs
 fn changed_attrs(mut attrs: Attrs, change: &Change) -> Result<Attrs, AllocError>
     requires change { IsChange change.now }
     requires attrs { IsAttrs attrs }
-    requires few { extras_after change.now attrs ≤ 16 }
+    requires few { extras_after change.now attrs ≤ max_extras }
     ensures value { IfOk result (λ new. new ≡ attrs_after change.now attrs) }
     ensures rules { IfOk result IsAttrs }
 {
@@ -139,7 +135,7 @@ fn changed_attrs(mut attrs: Attrs, change: &Change) -> Result<Attrs, AllocError>
 fn changed_body(body: ItemBody, change: &Change, stamp: u64) -> Result<ItemBody, AllocError>
     requires change { IsChange change.now }
     requires attrs { IsAttrs (item_attrs body) }
-    requires few { extras_after change.now (item_attrs body) ≤ 16 }
+    requires few { extras_after change.now (item_attrs body) ≤ max_extras }
     ensures value { IfOk result (λ new. new ≡ reset_body change.now stamp body) }
     ensures rules { IfOk result (λ new. IsAttrs (item_attrs new)) }
 {
@@ -164,7 +160,7 @@ fn changed_body(body: ItemBody, change: &Change, stamp: u64) -> Result<ItemBody,
 fn reset(row: ItemRow, change: &Change, stamp: u64) -> Result<ItemRow, AllocError>
     requires change { IsChange change.now }
     requires row { IsItemRow row }
-    requires few { extras_after change.now (item_attrs row.body) ≤ 16 }
+    requires few { extras_after change.now (item_attrs row.body) ≤ max_extras }
     ensures value { IfOk result (λ new. new ≡ reset_row change.now stamp row) }
     ensures rules { IfOk result IsItemRow }
 {
@@ -176,7 +172,7 @@ fn reset(row: ItemRow, change: &Change, stamp: u64) -> Result<ItemRow, AllocErro
 /// The edit that puts another row under a number.
 fn reset_edit(alloc: Global, number: u64, row: &ItemRow, next: u64) -> Result<Edit, AllocError>
     requires row { IsItemRow row.now }
-    requires number { number ≤ 65536 }
+    requires number { number ≤ max_items }
     ensures { IfOk result (λ e. IsReset e number row.now next) }
 {
     let put = Put {
@@ -207,10 +203,7 @@ pub(crate) fn plan_attrs(
     ensures { (moment : Option ℕ) → Plans volume.now change.now moment result }
 {
     volume.rules();
-    let number = match volume.number_at(path) {
-        Ok(number) => number,
-        Err(why) => return Err(LineFault::Refused(why)),
-    };
+    let number = volume.number_at(path)?;
     let row = volume.item_row(number)?;
     match attrs_refusal(attrs_of(&row.body), change, path.is_root()) {
         Some(why) => return Err(LineFault::Refused(why)),
@@ -218,7 +211,7 @@ pub(crate) fn plan_attrs(
     }
     let drawn = stamps(&row.body) + touched.as_slice().len() as u64;
     let next = volume.next_number();
-    if next as u128 + drawn as u128 > MOST_NEXT {
+    if next as u128 + drawn as u128 > MAX_NEXT as u128 {
         return Err(LineFault::Refused(Refused::IdsSpent));
     }
     let new = reset(row, change, next)?;

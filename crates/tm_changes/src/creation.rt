@@ -5,6 +5,7 @@ ghost use Rattle.tm_tree.specs.Trees.{last_of};
 ghost use Rattle.tm_changes.specs.Changes.{IsChange};
 ghost use Rattle.tm_changes.specs.Placing.{IsNewRow};
 ghost use Rattle.tm_changes.specs.Creations.{making, new_body, creation_of};
+ghost use Rattle.tm_base.specs.Limits.{max_items};
 
 use crate::place::last_name;
 use std::alloc::{AllocError, Global};
@@ -60,7 +61,7 @@ pub(crate) fn creation_of(
 ) -> Result<Creation, AllocError>
     requires path { is_root path.now ≡ false }
     requires change { IsChange (making path.now item) }
-    requires folder { folder ≤ 65536 }
+    requires folder { folder ≤ max_items }
     requires drawn { (1 ≤ drawn) × (drawn + 2 ≤ 2 ^ 62) }
     ensures plan { IfOk result (λ plan. plan ≡ creation_of path.now item folder date drawn) }
     ensures row { IfOk result (λ plan. IsNewRow plan.row folder (last_of path.now) (drawn + 2)) }

@@ -1,15 +1,17 @@
 //! Where a new item would stand.
-ghost use Rattle.std.specs.Prelude.{◌≡◌, ℕ, List, Some, None, IfOk};
+ghost use Rattle.std.specs.Prelude.{◌≡◌, ◌<◌, ℕ, List, Some, None, IfOk, OnOk};
 ghost use Rattle.tm_base.specs.Paths.{parent_of};
 ghost use Rattle.tm_tree.specs.Refusing.{first_refused};
 ghost use Rattle.tm_volume_records.specs.Rules.{IsGoodVolume};
+ghost use Rattle.tm_base.specs.Limits.{max_items};
+ghost use Rattle.tm_volume.specs.FreeNumbers.{counted_items};
 ghost use Rattle.tm_volume.specs.Seen.{entries_on, items_on, tree_on};
 ghost use Rattle.tm_changes.specs.Destinations.{FindsFolder, MeetsDestination, IsStopped, folder_tests};
 
 use std::alloc::AllocError;
+use tm_base::limits::MAX_ITEMS;
 use tm_base::{LineFault, Moment, Path, Refused};
 use tm_volume::Volume;
-use tm_volume_records::MOST_NUMBER;
 
 /// Where the walk to the folder of a path ends.
 #[derive(Clone, Copy, Debug, PartialEq, Eq)]
@@ -57,7 +59,7 @@ fn place_refusal(
         Some(Refused::Exists)
     } else if destination == Destination::NoFolder {
         Some(Refused::NotFolder)
-    } else if count > MOST_NUMBER as u128 {
+    } else if count > MAX_ITEMS as u128 {
         Some(Refused::TooMany { count })
     } else if moment.is_none() {
         Some(Refused::NoMoment)
@@ -72,7 +74,8 @@ pub(crate) fn folder_for(
     path: &Path,
     moment: Option<Moment>,
 ) -> Result<u64, LineFault>
-    ensures { (bytes : ℕ → List ℕ) → FindsFolder (items_on volume.now bytes) (tree_on volume.now bytes) path.now moment (IsGoodVolume (entries_on volume.now bytes) volume.now.tag) result }
+    ensures finds { (bytes : ℕ → List ℕ) → FindsFolder (items_on volume.now bytes) (tree_on volume.now bytes) path.now moment (IsGoodVolume (entries_on volume.now bytes) volume.now.tag) result }
+    ensures fewer { OnOk result (counted_items volume.now.image.records < max_items) }
 {
     let destination = destination_of(volume, path)?;
     let there = volume.has(path);

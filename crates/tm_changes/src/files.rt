@@ -8,10 +8,12 @@ ghost use Rattle.tm_tree.specs.Refusing.{first_refused};
 ghost use Rattle.tm_tree.specs.Trees.{item_at, last_of};
 ghost use Rattle.tm_changes.specs.Plans.{IsGood};
 ghost use Rattle.tm_changes.specs.Fitting.{staged_len};
+ghost use Rattle.tm_volume.specs.FreeNumbers.{counted_items};
 ghost use Rattle.tm_volume.specs.Seen.{items_on, tree_on, volume_on};
 ghost use Rattle.tm_changes.specs.Destinations.{MeetsDestination, LeadsInto, goes_into_folder};
-ghost use Rattle.tm_changes.specs.Targets.{IsFileAt, IsFileBody, MeetsTarget, is_folder_there, is_link_there, target_length};
+ghost use Rattle.tm_changes.specs.Targets.{IsFileAt, IsFileBody, MeetsTarget, is_file_there, is_folder_there, is_link_there, target_length};
 ghost use Rattle.tm_changes.specs.Writes.{IsWriting, PlansData, PlansFile, new_file_row, redone_body, redone_row, write_tests};
+ghost use Rattle.tm_base.specs.Limits.{max_items};
 
 use crate::destination::{Destination, destination_of};
 use crate::place::{last_name, place_edit};
@@ -34,7 +36,7 @@ fn new_row(
     size: u64,
 ) -> Result<ItemRow, AllocError>
     requires path { is_root path.now ≡ false }
-    requires folder { folder ≤ 65536 }
+    requires folder { folder ≤ max_items }
     ensures row { IfOk result (λ row. row ≡ new_file_row folder (last_of path.now) moment stamp size) }
     ensures rules { IfOk result (IsItemOfSize size) }
 {
@@ -124,6 +126,7 @@ fn new_file_edit(
 ) -> Result<Edit, LineFault>
     requires into { (bytes : ℕ → List ℕ) → LeadsInto (items_on volume.now bytes) (tree_on volume.now bytes) path.now folder }
     requires none { (bytes : ℕ → List ℕ) → item_at (tree_on volume.now bytes) path.now ≡ None }
+    requires fewer { counted_items volume.now.image.records < max_items }
     requires size { size ≤ most_bytes }
     requires next { volume.now.tag.next + 2 ≤ 2 ^ 62 }
     requires passes { (bytes : ℕ → List ℕ) → IsGood volume.now bytes → first_refused (write_tests (volume_on volume.now bytes).contents path.now size (Some moment)) ≡ None }
@@ -136,7 +139,7 @@ fn new_file_edit(
     let next = volume.next_number();
     let row = new_row(volume.alloc(), path, folder, moment, next, size)?;
     let Some(number) = volume.free_number() else {
-        return Err(LineFault::Memory);
+        unreachable!()
     };
     Ok(place_edit(volume, path, number, folder, &row, moment, next + 2)?)
 }
@@ -190,6 +193,7 @@ fn file_edit(
     requires meets { (bytes : ℕ → List ℕ) → MeetsTarget (items_on volume.now bytes) (tree_on volume.now bytes) path.now target }
     requires folder { goes_into_folder destination ≡ true }
     requires target { (is_folder_there target ≡ false) × (is_link_there target ≡ false) }
+    requires fewer { is_file_there target ≡ false → counted_items volume.now.image.records < max_items }
     requires size { size ≤ most_bytes }
     requires next { volume.now.tag.next + 2 ≤ 2 ^ 62 }
     requires passes { (bytes : ℕ → List ℕ) → IsGood volume.now bytes → first_refused (write_tests (volume_on volume.now bytes).contents path.now size (Some moment)) ≡ None }

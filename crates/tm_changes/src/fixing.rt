@@ -8,15 +8,13 @@ ghost use Rattle.tm_volume.specs.Seen.{volume_on};
 ghost use Rattle.tm_changes.specs.Writes.{IsFixing, PlansData, staged_data};
 
 use std::alloc::AllocError;
+use tm_base::limits::MAX_FIXED;
 use tm_base::{LineFault, Path, Refused};
 use tm_records::{Body, Put};
 use tm_tree::Change;
 use tm_volume::{Edit, Volume};
 use tm_volume_records::{FixedPaths, HEAD_KEY, JOURNAL_KEY};
 use tm_world::Bytes;
-
-/// Fixed paths of a volume.
-const MOST_FIXED: u128 = 256;
 
 /// How many there are with this one.
 fn count_with(fixed: &FixedPaths, path: &Path) -> u128
@@ -31,7 +29,7 @@ fn with_fixed(volume: &Volume, path: &Path) -> Result<FixedPaths, LineFault>
     ensures { FindsFixed volume.now.fixed (Fix path.now) result }
 {
     let count = count_with(volume.fixed_paths(), path);
-    if count > MOST_FIXED {
+    if count > MAX_FIXED as u128 {
         return Err(LineFault::Refused(Refused::TooMany { count }));
     }
     if path.is_root() {

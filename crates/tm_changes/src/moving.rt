@@ -198,7 +198,6 @@ pub(crate) fn plan_mv(
     requires { change.now ≡ Mv from.now to.now }
     ensures { Plans volume.now change.now moment result }
 {
-    volume.rules();
     let start = volume.number_at(from);
     let destination = destination_of(volume, to)?;
     let there = volume.has(to);

@@ -1,7 +1,10 @@
 //! Items without data, made.
+ghost use Rattle.std.specs.Prelude.{◌<◌, OnOk};
+ghost use Rattle.tm_base.specs.Limits.{max_items};
 ghost use Rattle.tm_changes.specs.Changes.{IsChange};
 ghost use Rattle.tm_changes.specs.Creations.{FindsCreation, making};
 ghost use Rattle.tm_changes.specs.Plans.{Plans};
+ghost use Rattle.tm_volume.specs.FreeNumbers.{counted_items};
 
 use crate::creation::{Creation, NewItem, creation_of};
 use crate::destination::folder_for;
@@ -17,17 +20,15 @@ fn plan_item(
     moment: Option<Moment>,
 ) -> Result<Creation, LineFault>
     requires { IsChange (making path.now item) }
-    ensures { FindsCreation volume.now path.now item moment result }
+    ensures finds { FindsCreation volume.now path.now item moment result }
+    ensures fewer { OnOk result (counted_items volume.now.image.records < max_items) }
 {
     volume.rules();
     let folder = folder_for(volume, path, moment)?;
     let Some(next) = volume.next_after(2) else {
         return Err(LineFault::Refused(Refused::IdsSpent));
     };
-    let Some(date) = moment else {
-        // Refused before.
-        return Err(LineFault::Memory);
-    };
+    let Some(date) = moment else { unreachable!() };
     Ok(creation_of(volume.alloc(), path, item, folder, date, next - 2)?)
 }
 
@@ -51,7 +52,7 @@ pub(crate) fn plan_new(
     } = plan_item(volume, path, item, moment)?;
     let _ = date.seconds();
     let Some(number) = volume.free_number() else {
-        return Err(LineFault::Memory);
+        unreachable!()
     };
     Ok(place_edit(volume, path, number, folder, &row, date, next)?)
 }

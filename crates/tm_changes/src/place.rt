@@ -7,6 +7,7 @@ ghost use Rattle.tm_records.specs.declared.record.Body.TheVariants.{Empty};
 ghost use Rattle.tm_tree.specs.Trees.{last_of};
 ghost use Rattle.tm_changes.specs.Placing.{MakesPlace, dated_row};
 ghost use Rattle.tm_volume_records.specs.Records.{IsThere};
+ghost use Rattle.tm_base.specs.Limits.{max_items};
 
 use crate::destination::parent;
 use std::alloc::AllocError;
@@ -54,7 +55,7 @@ pub(crate) fn place_edit(
 ) -> Result<Edit, AllocError>
     requires row { IsItemRow row.now }
     requires path { is_root path.now ≡ false }
-    requires number { number ≤ 65536 }
+    requires number { number ≤ max_items }
     requires folder { IsThere volume.now.image.records folder }
     ensures place { IfOk result (λ e. MakesPlace volume.now e number folder moment row.now (last_of path.now) Empty) }
     ensures next { IfOk result (λ e. e.next ≡ next) }

@@ -83,10 +83,7 @@ fn plan_removal(
     let Some(next) = volume.next_after(1) else {
         return Err(LineFault::Refused(Refused::IdsSpent));
     };
-    match removal(volume, path, number, moment, next) {
-        Ok(edit) => Ok(edit),
-        Err(_) => Err(LineFault::Memory),
-    }
+    Ok(removal(volume, path, number, moment, next)?)
 }
 
 /// What is planned for the removal of a file or link.
@@ -100,15 +97,11 @@ pub(crate) fn plan_rm(
     ensures { Plans volume.now change.now moment result }
 {
     volume.rules();
-    match volume.number_at(path) {
-        Ok(number) => {
-            if volume.is_folder(number) {
-                return Err(LineFault::Refused(Refused::IsFolder));
-            }
-            plan_removal(volume, change, path, number, moment)
-        }
-        Err(why) => Err(LineFault::Refused(why)),
+    let number = volume.number_at(path)?;
+    if volume.is_folder(number) {
+        return Err(LineFault::Refused(Refused::IsFolder));
     }
+    plan_removal(volume, change, path, number, moment)
 }
 
 /// What is planned for the removal of an empty folder.
@@ -122,19 +115,15 @@ pub(crate) fn plan_rmdir(
     ensures { Plans volume.now change.now moment result }
 {
     volume.rules();
-    match volume.number_at(path) {
-        Ok(number) => {
-            if !volume.is_folder(number) {
-                return Err(LineFault::Refused(Refused::NotFolder));
-            }
-            if !is_bare(volume.numbers(), number) {
-                return Err(LineFault::Refused(Refused::NotEmpty));
-            }
-            if path.is_root() {
-                return Err(LineFault::Refused(Refused::RootItem));
-            }
-            plan_removal(volume, change, path, number, moment)
-        }
-        Err(why) => Err(LineFault::Refused(why)),
+    let number = volume.number_at(path)?;
+    if !volume.is_folder(number) {
+        return Err(LineFault::Refused(Refused::NotFolder));
     }
+    if !is_bare(volume.numbers(), number) {
+        return Err(LineFault::Refused(Refused::NotEmpty));
+    }
+    if path.is_root() {
+        return Err(LineFault::Refused(Refused::RootItem));
+    }
+    plan_removal(volume, change, path, number, moment)
 }

@@ -6,18 +6,10 @@ ghost use Rattle.tm_changes.specs.Targets.{MeetsTarget, count_tests, target_of, 
 
 use crate::destination::Destination;
 use std::alloc::AllocError;
+use tm_base::limits::{MAX_FILE_BYTES, MAX_ITEMS};
 use tm_base::{Moment, Path, Refused};
 use tm_tree::{ItemBody, ItemRow, LeafRow};
-use tm_volume::Volume;
-
-/// Bytes of a file.
-const MOST_BYTES: u64 = 16_777_216;
-
-/// Items of a volume, the root counted.
-const MOST_ITEMS: u128 = 65_536;
-
-/// The greatest number that can be drawn, and one more.
-const MOST_NEXT: u64 = 1 << 62;
+use tm_volume::{MAX_NEXT, Volume};
 
 /// What stands at the path of a file that is written.
 #[derive(Drop)]
@@ -64,7 +56,7 @@ pub(crate) fn file_refusal(
         Some(Refused::NotFolder)
     } else if matches!(target, Target::Folder) {
         Some(Refused::IsFolder)
-    } else if size > MOST_BYTES {
+    } else if size > MAX_FILE_BYTES {
         Some(Refused::TooLong { length: size })
     } else {
         count_refusal(target, count, moment, next)
@@ -80,11 +72,11 @@ fn count_refusal(target: &Target, count: u64, moment: Option<Moment>, next: u64)
         Target::File(..) => count as u128,
         _ => count as u128 + 1,
     };
-    if count > MOST_ITEMS {
+    if count > MAX_ITEMS as u128 {
         Some(Refused::TooMany { count })
     } else if moment.is_none() {
         Some(Refused::NoMoment)
-    } else if next + 2 > MOST_NEXT {
+    } else if next + 2 > MAX_NEXT {
         Some(Refused::IdsSpent)
     } else {
         None

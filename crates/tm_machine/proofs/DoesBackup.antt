@@ -120,7 +120,7 @@ module _ (n k : ℕ) (v w : VolumeSeen) (h g : Held) (date : ℕ) (volume : w �
       (λ is_idle. record {
         count = ap (λ (b : Side → ℕ). b VolumeSide) same ∙ at.count;
         small = at.small;
-        sound = subst (λ (x : VolumeSeen). IsKept x) (sym volume) (record { image = at.sound.image; side = at.sound.side; tag_is = at.sound.tag_is; tagged = at.sound.tagged; head_is = at.sound.head_is; sound = at.sound.sound });
+        sound = subst (λ (x : VolumeSeen). IsKept x) (sym volume) (record { image = at.sound.image; side = at.sound.side; tag_is = at.sound.tag_is; tagged = at.sound.tagged; head_is = at.sound.head_is; sound = at.sound.sound; lengths = at.sound.lengths });
         ready = subst (λ (x : VolumeSeen). IsReady x n) (sym volume) (record { settled = at.ready.settled; space = at.ready.space; count = at.ready.count; unstaged = at.ready.unstaged });
         store_count = ap (λ (b : Side → ℕ). b StoreSide) same ∙ at.store_count;
         store_small = at.store_small;

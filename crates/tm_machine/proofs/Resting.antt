@@ -39,10 +39,10 @@ ready_moved : (v : VolumeSeen) (n : ℕ) → IsReady (still v) n → IsReady v n
 ready_moved v n h = record { settled = h.settled; space = h.space; count = h.count; unstaged = h.unstaged }
 
 kept_still : (v : VolumeSeen) → IsKept v → IsKept (still v)
-kept_still v h = record { image = h.image; side = h.side; tag_is = h.tag_is; tagged = h.tagged; head_is = h.head_is; sound = h.sound }
+kept_still v h = record { image = h.image; side = h.side; tag_is = h.tag_is; tagged = h.tagged; head_is = h.head_is; sound = h.sound; lengths = h.lengths }
 
 kept_moved : (v : VolumeSeen) → IsKept (still v) → IsKept v
-kept_moved v h = record { image = h.image; side = h.side; tag_is = h.tag_is; tagged = h.tagged; head_is = h.head_is; sound = h.sound }
+kept_moved v h = record { image = h.image; side = h.side; tag_is = h.tag_is; tagged = h.tagged; head_is = h.head_is; sound = h.sound; lengths = h.lengths }
 
 stands_still : (v : VolumeSeen) (d : Disk) → StandsOn v d → StandsOn (still v) d
 stands_still v d h = record { stands = h.stands; good = h.good; fixed = h.fixed }

@@ -1,10 +1,12 @@
 -- The records of a new volume, and that they are one.
-use Rattle.std.proofs.Common.{◌≡◌, ⊎_elim, inl, inr, ℕ, zero, suc, ◌-◌, ◌*◌, ◌^◌, ◌<◌, ◌≤◌, true, false, cond, is_some, List, [], ◌∷◌, ◌++◌, length, drop, Option, Some, None, refl, sym, ◌∙◌, ap, subst, arith, length-append}
+use Rattle.std.proofs.Common.{◌≡◌, ⊎_elim, inl, inr, ℕ, zero, suc, ◌-◌, ◌*◌, ◌^◌, ◌<◌, ◌≤◌, Bool, true, false, cond, is_some, List, [], ◌∷◌, ◌++◌, length, drop, Option, Some, None, IfSome, refl, sym, ◌∙◌, ap, subst, arith, length-append}
 use Rattle.std.proofs.Math.Bool.{Bool-set}
 use Rattle.std.proofs.Math.Logic.{∥∥₁_elim}
 use Rattle.std.specs.List.{All}
 use Rattle.std.specs.List.Sorted.{IsStrictlySortedBy}
+use Rattle.std.specs.BTreeMap.{is_at}
 use Rattle.std.specs.Option.{option_map}
+use Rattle.std.specs.Ordering.{nat_cmp}
 use Rattle.tm_base.specs.Days.{last_moment}
 use Rattle.tm_base.specs.IsName.{IsName}
 use Rattle.tm_base.specs.Paths.{Names}
@@ -48,7 +50,7 @@ use Rattle.tm_world.proofs.Going.{Runs-weaker}
 use Rattle.tm_volume.specs.Blank.{root_row, first_puts}
 use Rattle.tm_volume_records.specs.Records.{head_key, journal_key, item_key, entry_at, placed_with, numbered, placings_of}
 use Rattle.tm_volume.specs.Reads.{VolumeReads, LeavesEither}
-use Rattle.tm_volume_records.specs.Rules.{Tag, IsTagged, IsGoodVolume, IsHead, IsItem}
+use Rattle.tm_volume_records.specs.Rules.{Tag, AreShort, IsTagged, IsGoodVolume, IsHead, IsItem}
 use Rattle.tm_volume.specs.Seen.{Seen, IsShelf, StandsOn, tree_on, stored_on}
 use Rattle.tm_volume.specs.Stored.{StoredVolume, new_stored}
 use Rattle.tm_volume.proofs.GoodRecords.{AreGood, good_put, good_volume}
@@ -57,6 +59,7 @@ use Rattle.tm_volume.proofs.Metas.{meta_short}
 use Rattle.tm_volume.proofs.Rooms.{data_length, part_len, text_sum}
 use Rattle.tm_volume.proofs.Standing.{IsTold, volume_reads}
 use Rattle.tm_nodes.proofs.Fields.{name_had}
+use Rattle.tm_base.specs.Limits.{min_blocks, max_events, max_file_bytes}
 
 -- ---- names
 
@@ -135,8 +138,8 @@ root_len moment =
 one_block : (head : VolumeHead) (moment : ℕ) → IsVolumeHead head → length (table_text (first_records head moment)) ≤ 4092
 one_block head moment rules = omega (arith, text_sum (first_records head moment), head_len head rules, root_len moment)
 
--- so from 8 blocks on there is room
-never_full : (head : VolumeHead) (moment blocks need free : ℕ) → IsVolumeHead head → 8 ≤ blocks
+-- so from the fewest blocks on there is room
+never_full : (head : VolumeHead) (moment blocks need free : ℕ) → IsVolumeHead head → min_blocks ≤ blocks
     → (free < need) × (free ≡ blocks - 3) × (need ≡ 2 * image_room.table_len (with_puts (first_puts head moment) [])) → ⊥
 never_full head moment blocks need free rules many full =
     let short = one_block head moment rules in
@@ -195,9 +198,17 @@ module _ (head : VolumeHead) (moment : ℕ) (rules : IsVolumeHead head) (low : m
   fixed_first : (bytes : ℕ → List ℕ) → paths_of (entry_of bytes (head_record head)).bytes ≡ Some []
   fixed_first bytes = ap paths_of (no_bytes bytes (volume_text head)) ∙ no_paths
 
+  short_first : AreShort (first_records head moment)
+  short_first n least most = by_tests (is_at (nat_cmp (item_key n)) head_key) (is_at (nat_cmp (item_key n)) (item_key 1))
+    where
+      by_tests : (a b : Bool) → IfSome (cond a (Some (head_record head)) (cond b (Some (root_record moment)) None)) (λ (r : Record). r.length ≤ max_file_bytes)
+      by_tests true b = omega arith
+      by_tests false true = omega arith
+      by_tests false false = tt
+
   -- ---- the rules
 
-  module _ (events : (1 ≤ head.capacity) × (head.capacity ≤ 65536)) where
+  module _ (events : (1 ≤ head.capacity) × (head.capacity ≤ max_events)) where
     good_head : (bytes : ℕ → List ℕ) → IsHead (entry_of bytes (head_record head))
     good_head bytes = record { head = head; meta = head_reads; capacity = events; fixed = []; bytes = fixed_first bytes }
 
@@ -241,6 +252,7 @@ module _ (head : VolumeHead) (moment : ℕ) (rules : IsVolumeHead head) (low : m
         tagged = first_tagged;
         head_is = (told_first (λ b. [])).head;
         sound = λ bytes. (told_first bytes).sound;
+        lengths = on_records AreShort short_first;
         index_is = λ bytes. on_records (λ rs. IsIndex (items_of (placings_of (entries_of bytes rs))) (λ place. None)) (index_first bytes);
       }
 
@@ -287,13 +299,13 @@ pub record IsMade (name : List ℕ) (id events moment : ℕ) (head : VolumeHead)
   pub head_is : head ≡ record { id = id; capacity = events; name = name }
   pub rules : IsVolumeHead head
   pub low : moment ≤ last_moment
-  pub few : (1 ≤ events) × (events ≤ 65536)
+  pub few : (1 ≤ events) × (events ≤ max_events)
   pub puts : put ≡ first_puts head moment
   pub tag_is : tag ≡ volume_tag 0 1 1
 
 module _ (name : List ℕ) (id events moment : ℕ) (head : VolumeHead) (put : List Put) (tag : List ℕ) (made : IsMade name id events moment head put tag) where
-  few : (1 ≤ head.capacity) × (head.capacity ≤ 65536)
-  few = subst (λ (h : VolumeHead). (1 ≤ h.capacity) × (h.capacity ≤ 65536)) (sym made.head_is) made.few
+  few : (1 ≤ head.capacity) × (head.capacity ≤ max_events)
+  few = subst (λ (h : VolumeHead). (1 ≤ h.capacity) × (h.capacity ≤ max_events)) (sym made.head_is) made.few
 
   new_is : new_stored head.name head.id head.capacity moment ≡ new_stored name id events moment
   new_is = ap (λ (h : VolumeHead). new_stored h.name h.id h.capacity moment) made.head_is
@@ -301,7 +313,7 @@ module _ (name : List ℕ) (id events moment : ℕ) (head : VolumeHead) (put : L
   pub made_puts : All IsFirstPut put
   made_puts = subst (λ (ps : List Put). All IsFirstPut ps) (sym made.puts) (puts_rules head moment made.rules made.low)
 
-  pub made_fits : (blocks need free : ℕ) → 8 ≤ blocks → (free < need) × (free ≡ blocks - 3) × (need ≡ 2 * image_room.table_len (with_puts put [])) → ⊥
+  pub made_fits : (blocks need free : ℕ) → min_blocks ≤ blocks → (free < need) × (free ≡ blocks - 3) × (need ≡ 2 * image_room.table_len (with_puts put [])) → ⊥
   made_fits blocks need free many full =
       never_full head moment blocks need free made.rules many (full.0, full.1, full.2 ∙ ap (λ (ps : List Put). 2 * image_room.table_len (with_puts ps [])) made.puts)
 

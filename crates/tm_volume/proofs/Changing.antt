@@ -17,6 +17,7 @@ use Rattle.tm_items.proofs.Counting.{with_set, without_set}
 use Rattle.tm_items.proofs.Reading.{number_decides}
 use Rattle.tm_volume_records.specs.Records.{item_key, placed_of, items_in}
 use Rattle.tm_volume_records.proofs.Slots.{Rising, rising_tail, once_there, items_at, items_out, placed_rec}
+use Rattle.tm_base.specs.Limits.{max_items}
 
 -- ---- what is found
 
@@ -127,18 +128,18 @@ number_keys n m = elim (is_at (nat_cmp n) m) as (λ b. is_at (nat_cmp n) m ≡ b
   ] refl
 ] refl
 
-other_number : (n m : ℕ) → 1 ≤ n → n ≤ 65536 → (m < 1) ⊎ (65536 < m) → is_at (nat_cmp n) m ≡ false
+other_number : (n m : ℕ) → 1 ≤ n → n ≤ max_items → (m < 1) ⊎ (max_items < m) → is_at (nat_cmp n) m ≡ false
 other_number n m lo hi out = elim (is_at (nat_cmp n) m) as (λ b. is_at (nat_cmp n) m ≡ b → b ≡ false) [
   | true ↦ λ here. let same : n ≡ m = (number_decides n m).0 here in elim out [ inl low ↦ absurd (omega arith) | inr high ↦ absurd (omega arith) ]
   | false ↦ λ _. refl
 ] refl
 
 -- a number is from 1 to 65,536, or it is not
-ranged : (m : ℕ) (P : Type 0) → (1 ≤ m → m ≤ 65536 → P) → ((m < 1) ⊎ (65536 < m) → P) → P
-ranged m P inside outside = ⊎_elim (λ (low : m < 1). outside (inl low)) (λ (le : 1 ≤ m). ⊎_elim (λ (high : 65536 < m). outside (inr high)) (λ (within : m ≤ 65536). inside le within) (cases_lt 65536 m)) (cases_lt m 1)
+ranged : (m : ℕ) (P : Type 0) → (1 ≤ m → m ≤ max_items → P) → ((m < 1) ⊎ (max_items < m) → P) → P
+ranged m P inside outside = ⊎_elim (λ (low : m < 1). outside (inl low)) (λ (le : 1 ≤ m). ⊎_elim (λ (high : max_items < m). outside (inr high)) (λ (within : m ≤ max_items). inside le within) (cases_lt max_items m)) (cases_lt m 1)
 
 module _ (bytes : ℕ → List ℕ) (es : Records) (s : Rising es) where
-  module _ (n : ℕ) (lo : 1 ≤ n) (hi : n ≤ 65536) where
+  module _ (n : ℕ) (lo : 1 ≤ n) (hi : n ≤ max_items) where
     -- a record put at a number
     pub items_put : (v : Record) (x : Placed) → placed_of (entry_of bytes v) ≡ Some x → items_in (insert_entry nat_cmp es (item_key n) v) bytes ≡ with_item (items_in es bytes) n x
     items_put v x is = with_set n x (items_in es bytes) (items_in (insert_entry nat_cmp es (item_key n) v) bytes)

@@ -1,5 +1,5 @@
 -- How many items a volume has, numbers that none has, and paths at which none stands.
-use Rattle.std.proofs.Common.{◌≡◌, ℕ, ◌+◌, ◌-◌, ◌≤◌, false, List, length, refl, sym, ap, ◌∙◌, subst, Option, Some, None, Ok, Err, is_some, arith}
+use Rattle.std.proofs.Common.{◌≡◌, ℕ, ◌+◌, ◌-◌, ◌≤◌, true, false, List, length, refl, sym, ap, ◌∙◌, subst, Option, Some, None, Ok, Err, is_some, is_none, IsSome, arith}
 use Rattle.std.specs.Option.{option_map, option_map_or}
 use Rattle.tm_base.specs.Paths.{Names}
 use Rattle.tm_base.specs.declared.refused.Refused.{Refused}
@@ -19,6 +19,7 @@ use Rattle.tm_volume.specs.Seen.{Seen, IsShelf, entries_on, items_on, tree_on}
 use Rattle.tm_volume.specs.FreeNumbers.{IsUnused}
 use Rattle.tm_volume_records.proofs.Slots.{items_at, placed_rec}
 use Rattle.tm_volume.proofs.Rooms.{Known, count_is, found_kept}
+use Rattle.tm_base.specs.Limits.{max_items}
 
 pub known_on : (m : Seen) (numbers : Numbers) → IsShelf m numbers → ImageIsSound m.image → (bytes : ℕ → List ℕ) → IsGoodVolume (entries_on m bytes) m.tag → Known m bytes
 known_on m numbers shelf sound bytes good = record {
@@ -45,7 +46,15 @@ pub absent : (o : Option Record) (l : Option ℕ) → l ≡ option_map (λ (r : 
 absent None l is none = refl
 absent (Some r) l is none = let bad : is_some (Some r.length) ≡ false = subst (λ (x : Option ℕ). is_some x ≡ false) is none in cc
 
-pub unused : (m : Seen) (n : ℕ) → ImageIsSound m.image → 2 ≤ n → n ≤ 65536 → at (item_key n) m.image.records ≡ None → (bytes : ℕ → List ℕ) → IsUnused (items_on m bytes) n
+pub no_record : (o : Option Record) → is_none o ≡ true → o ≡ None
+no_record None h = refl
+no_record (Some r) h = cc
+
+pub record_there : (o : Option Record) → is_none o ≡ false → IsSome o
+record_there None h = cc
+record_there (Some r) h = refl
+
+pub unused : (m : Seen) (n : ℕ) → ImageIsSound m.image → 2 ≤ n → n ≤ max_items → at (item_key n) m.image.records ≡ None → (bytes : ℕ → List ℕ) → IsUnused (items_on m bytes) n
 unused m n sound lo hi none bytes = record {
   low = lo;
   high = hi;

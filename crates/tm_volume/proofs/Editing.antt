@@ -36,8 +36,10 @@ use Rattle.tm_image.specs.Room.{free_of}
 use Rattle.tm_volume.specs.Edits.{IsFullEdit, need_of_edit, after, next_tag, Enters, Forgets, Leaves, IsFree, IsEdit, IsGoodEdit}
 use Rattle.tm_volume_records.specs.Records.{head_key, journal_key, entry_at, placings_of}
 use Rattle.tm_volume.specs.Reads.{LeavesEither, tag_bytes}
-use Rattle.tm_volume_records.specs.Rules.{Tag, IsTagged, IsGoodVolume}
+use Rattle.tm_volume_records.specs.Rules.{Tag, AreShort, IsTagged, IsGoodVolume}
 use Rattle.tm_volume.specs.Seen.{Seen, IsShelf, IsReady, StandsOn, entries_on, stored_on}
+use Rattle.tm_volume_records.proofs.Slots.{Rising}
+use Rattle.tm_volume.proofs.Lengths.{changed_short}
 use Rattle.tm_volume.proofs.Standing.{IsTold, volume_reads}
 use Rattle.tm_volume.proofs.Retagging.{tag_is, told_of}
 
@@ -59,6 +61,7 @@ module _ (m : Seen) (n0 : Numbers) (shelf : IsShelf m n0) where
     tagged = shelf.tagged;
     head_is = ap (λ (rs : Records). option_map (λ r. volume_of r.meta) (at head_key rs)) same.records ∙ shelf.head_is;
     sound = λ bytes. subst (λ (rs : Records). IsSound (items_of (placings_of (entries_of bytes rs)))) (sym same.records) (shelf.sound bytes);
+    lengths = subst AreShort (sym same.records) shelf.lengths;
     index_is = λ bytes. subst (λ (ns : Numbers). IsIndex (items_of (placings_of (entries_of bytes image.records))) ns) (sym is)
         (subst (λ (rs : Records). IsIndex (items_of (placings_of (entries_of bytes rs))) n0) (sym same.records) (shelf.index_is bytes));
   }
@@ -69,14 +72,15 @@ module _ (m : Seen) (n0 : Numbers) (shelf : IsShelf m n0) where
 
     -- ---- afterwards
 
-    pub shelf_after : (image : ImageSeen) (fixed : List Names) (tag : Tag) (between new : Numbers) → image.side ≡ m.image.side → image.records ≡ changed e.remove.items e.put.items m.image.records
+    pub shelf_after : (image : ImageSeen) (fixed : List Names) (tag : Tag) (between new : Numbers) → Rising m.image.records → image.side ≡ m.image.side → image.records ≡ changed e.remove.items e.put.items m.image.records
         → image.root.tag ≡ tag_bytes tag → IsTagged tag → Enters e.enter n0 between → Leaves e.leave between new → IsShelf (With m image fixed tag) new
-    shelf_after image fixed tag between new side records tagged_as tagged enters leaves = record {
+    shelf_after image fixed tag between new rising side records tagged_as tagged enters leaves = record {
       side = side ∙ shelf.side;
       tag_is = tagged_as;
       tagged = tagged;
       head_is = ap (λ (rs : Records). option_map (λ r. volume_of r.meta) (at head_key rs)) records ∙ is.head;
       sound = λ bytes. subst (λ (rs : Records). IsSound (items_of (placings_of (entries_of bytes rs)))) (sym records) (is.sound bytes);
+      lengths = subst AreShort (sym records) (changed_short e.remove.items e.put.items m.image.records rising is.lengths shelf.lengths);
       index_is = λ bytes. subst (λ (rs : Records). IsIndex (items_of (placings_of (entries_of bytes rs))) new) (sym records) (is.index_is bytes n0 between new (shelf.index_is bytes) enters leaves);
     }
 

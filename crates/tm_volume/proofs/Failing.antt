@@ -16,6 +16,7 @@ use Rattle.tm_volume.specs.Reads.{VolumeReads, IsUnformattedImage, tag_bytes}
 use Rattle.tm_volume_records.specs.Rules.{Tag, IsTagged, IsGoodVolume, IsLeastBad}
 use Rattle.tm_volume.specs.Stored.{StoredVolume}
 use Rattle.tm_volume.proofs.Leaving.{same_tag}
+use Rattle.tm_base.specs.Limits.{max_blocks}
 
 -- what fails of an image that stands for entries and a tag
 IsLate : Entries → Tag → Cause → ℕ → Type 0
@@ -56,7 +57,7 @@ late_once entries tag cause cause2 place place2 (inl f) (inr g) = absurd ((f.1).
 late_once entries tag cause cause2 place place2 (inr f) (inl g) = absurd ((g.1).bad (f.1 place2))
 late_once entries tag cause cause2 place place2 (inr f) (inr g) = (g.0 ∙ sym f.0, g.4 ∙ sym f.4)
 
-module _ (reading : OneReading) (image : Image) (few : image.count ≤ 262144) where
+module _ (reading : OneReading) (image : Image) (few : image.count ≤ max_blocks) where
   moved : (entries entries2 : Entries) (tag tag2 : Tag) (cause : Cause) (place : ℕ) → IsTagged tag → IsTagged tag2
       → ReadsAsTable OfVolume entries (tag_bytes tag) image → ReadsAsTable OfVolume entries2 (tag_bytes tag2) image → IsLate entries2 tag2 cause place → IsLate entries tag cause place
   moved entries entries2 tag tag2 cause place bound bound2 reads reads2 late =

@@ -33,6 +33,7 @@ use Rattle.tm_volume.proofs.Finding.{IsRowAt}
 use Rattle.tm_volume.specs.Listed.{AddsItem}
 use Rattle.tm_volume_records.proofs.Slots.{Rising, at_itself, items_at, once_there, is_less, placed_rec, placings_on, numbered_on, items_out}
 use Rattle.tm_base.proofs.Facts.{none_some}
+use Rattle.tm_base.specs.Limits.{max_items}
 
 -- the items from a number on
 abbrev pub from : ℕ → Placings → Placings
@@ -161,11 +162,11 @@ module _ (records : Records) (rising : Rising records) where
 
   -- no record, no item
   pub nothing_there : (bytes : ℕ → List ℕ) (m : ℕ) → 1 ≤ m → at (item_key m) records ≡ None → items_in records bytes m ≡ None
-  nothing_there bytes m low none = ⊎_elim (λ (high : 65536 < m). items_out bytes records m (inr high)) (λ (le : m ≤ 65536). items_at bytes records m low le rising ∙ ap (placed_rec bytes) none) (cases_lt 65536 m)
+  nothing_there bytes m low none = ⊎_elim (λ (high : max_items < m). items_out bytes records m (inr high)) (λ (le : m ≤ max_items). items_at bytes records m low le rising ∙ ap (placed_rec bytes) none) (cases_lt max_items m)
 
   -- the least key is above all items
-  pub nothing_up_to : (bytes : ℕ → List ℕ) (key m : ℕ) → 1 ≤ m → 65536 < key - 2 ^ 62 → (item_key m < key → at (item_key m) records ≡ None) → items_in records bytes m ≡ None
-  nothing_up_to bytes key m low high none = ⊎_elim (λ (out : 65536 < m). items_out bytes records m (inr out)) (λ (le : m ≤ 65536). nothing_there bytes m low (none (omega (arith, le, high)))) (cases_lt 65536 m)
+  pub nothing_up_to : (bytes : ℕ → List ℕ) (key m : ℕ) → 1 ≤ m → max_items < key - 2 ^ 62 → (item_key m < key → at (item_key m) records ≡ None) → items_in records bytes m ≡ None
+  nothing_up_to bytes key m low high none = ⊎_elim (λ (out : max_items < m). items_out bytes records m (inr out)) (λ (le : m ≤ max_items). nothing_there bytes m low (none (omega (arith, le, high)))) (cases_lt max_items m)
 
 -- ---- an item with its bytes
 

@@ -16,11 +16,12 @@ use Rattle.tm_volume_records.specs.Records.{head_key, journal_key, item_key, ent
 use Rattle.tm_volume_records.specs.Rules.{Tag, IsHead, HasHead, IsItem, HasStamp, HasJournal, IsGoodVolume}
 use Rattle.tm_volume_records.proofs.Slots.{Rising, entry_is}
 use Rattle.tm_volume.proofs.Changing.{at_insert, at_remove}
+use Rattle.tm_base.specs.Limits.{max_items}
 
 -- a record at its key, but for the rows of a journal
 abbrev pub IsGoodRecord : (ℕ → List ℕ) → ℕ → ℕ → Record → Type 0
 IsGoodRecord bytes next k r = ((k ≡ head_key) × IsHead (entry_of bytes r)) ⊎ ((k ≡ journal_key) × (r.meta ≡ []))
-    ⊎ ((n : ℕ) × (1 ≤ n) × (n ≤ 65536) × (k ≡ item_key n) × IsItem next (entry_of bytes r))
+    ⊎ ((n : ℕ) × (1 ≤ n) × (n ≤ max_items) × (k ≡ item_key n) × IsItem next (entry_of bytes r))
 
 pub record AreGood (bytes : ℕ → List ℕ) (next : ℕ) (es : Records) : Type 0 where
   pub each : (k : ℕ) (r : Record) → at k es ≡ Some r → IsGoodRecord bytes next k r
@@ -100,7 +101,7 @@ module _ (bytes : ℕ → List ℕ) (es : Records) where
         on_record None is = tt
         on_record (Some r) is = all r is
 
-    known : (k : ℕ) (o : Option Record) → at k es ≡ o → IsSome (option_map (entry_of bytes) o) → (k ≡ head_key) ⊎ (k ≡ journal_key) ⊎ ((n : ℕ) × (1 ≤ n) × (n ≤ 65536) × (k ≡ item_key n))
+    known : (k : ℕ) (o : Option Record) → at k es ≡ o → IsSome (option_map (entry_of bytes) o) → (k ≡ head_key) ⊎ (k ≡ journal_key) ⊎ ((n : ℕ) × (1 ≤ n) × (n ≤ max_items) × (k ≡ item_key n))
     known k None is there = absurd (let bad : false ≡ true = there in cc)
     known k (Some r) is there = elim (good.each k r is) [
       | inl h ↦ inl h.0

@@ -9,8 +9,10 @@ pub mod Rows
 pub mod Finding
 mod Parting
 pub mod Changing
+pub mod Lengths
 pub mod GoodRecords
 pub mod Metas
+mod TakenNumbers
 mod Leaving
 mod Failing
 mod Loading

@@ -18,7 +18,7 @@ use Rattle.tm_world.specs.declared.world.Side.TheVariants.{Volume as OfVolume}
 use Rattle.tm_world.proofs.Going.{Runs-weaker}
 use Rattle.tm_volume_records.specs.Records.{head_key, entry_at, placings_of}
 use Rattle.tm_volume.specs.Reads.{VolumeReads, LeavesEither, tag_bytes}
-use Rattle.tm_volume_records.specs.Rules.{Tag, IsTagged, IsGoodVolume}
+use Rattle.tm_volume_records.specs.Rules.{Tag, AreShort, IsTagged, IsGoodVolume}
 use Rattle.tm_volume.specs.Seen.{Seen, IsShelf, StandsOn, entries_on, stored_on}
 use Rattle.tm_volume.specs.Stored.{StoredVolume, retagged}
 use Rattle.tm_volume.proofs.Standing.{IsTold, good_after, volume_reads}
@@ -122,6 +122,7 @@ module _ (m : Seen) (numbers : Numbers) (clean : Bool) (generation next : ℕ) (
     tagged = tagged_is m clean generation next shelf.tagged new;
     head_is = ap (λ (rs : Records). option_map (λ r. volume_of r.meta) (at head_key rs)) records ∙ shelf.head_is;
     sound = λ bytes. subst (λ (rs : Records). IsSound (items_of (placings_of (entries_of bytes rs)))) (sym records) (shelf.sound bytes);
+    lengths = subst AreShort (sym records) shelf.lengths;
     index_is = λ bytes. subst (λ (rs : Records). IsIndex (items_of (placings_of (entries_of bytes rs))) numbers) (sym records) (shelf.index_is bytes);
   }
 

@@ -48,6 +48,7 @@ use Rattle.tm_volume_records.specs.Rules.{IsItem, HasData, IsGoodVolume, IsVolum
 use Rattle.tm_volume.specs.Seen.{Seen, IsReady, entries_on, items_on, tree_on, stored_on}
 use Rattle.tm_volume_records.proofs.Slots.{Rising, entry_is, placings_on, range_key, numbered_on}
 use Rattle.tm_volume.proofs.Weights.{each_found, Fits, weigh_records}
+use Rattle.tm_base.specs.Limits.{max_items}
 
 pub data_length : (bytes : ℕ → List ℕ) (r : Record) → length (entry_of bytes r).bytes ≡ r.length
 unfolding bytes_in
@@ -162,7 +163,7 @@ module _ (m : Seen) (bytes : ℕ → List ℕ) (known : Known m bytes) where
   pub key_there : (k : ℕ) (r : Record) → at k m.image.records ≡ Some r → IsVolumeKey k
   key_there k r is = (known.good k).known (subst (λ (o : Option Entry). IsSome o) (sym (entry_there k r is)) refl)
 
-  pub item_there : (n : ℕ) (r : Record) → 1 ≤ n → n ≤ 65536 → at (item_key n) m.image.records ≡ Some r → IsItem m.tag.next (entry_of bytes r)
+  pub item_there : (n : ℕ) (r : Record) → 1 ≤ n → n ≤ max_items → at (item_key n) m.image.records ≡ Some r → IsItem m.tag.next (entry_of bytes r)
   item_there n r lo hi is = subst (λ (o : Option Entry). IfSome o (IsItem m.tag.next)) (entry_there (item_key n) r is) ((known.good (item_key n)).item n lo hi refl).item
 
   module _ (cost : Record → ℕ) (weight : Placed → ℕ) (costs : (r : Record) (kept : IsKept r) (item : IsItem m.tag.next (entry_of bytes r)) → cost r ≡ weight (placed_with (entry_of bytes r).bytes item.row)) where

@@ -26,6 +26,7 @@ use Rattle.tm_tree.specs.declared.record.ItemRow.{ItemRow}
 use Rattle.tm_volume_records.specs.Records.{item_key, item_with, placed_with, placed_of, items_in, IsThere}
 use Rattle.tm_volume.specs.Room.{body_of, placed_row}
 use Rattle.tm_volume_records.proofs.Slots.{Rising, placed_rec, items_at, items_out}
+use Rattle.tm_base.specs.Limits.{max_items}
 
 no_bytes : ℕ → List ℕ
 no_bytes b = []
@@ -35,10 +36,10 @@ none_is None there h = cc
 none_is (Some x) there h = cc
 
 -- it is from 1 to 65,536
-pub number_low : (records : Records) (n : ℕ) → IsThere records n → (1 ≤ n) × (n ≤ 65536)
+pub number_low : (records : Records) (n : ℕ) → IsThere records n → (1 ≤ n) × (n ≤ max_items)
 number_low records n there = (
   ⊎_elim (λ (lt : n < 1). none_is (items_in records no_bytes n) (there no_bytes) (items_out no_bytes records n (inl lt))) (λ (le : 1 ≤ n). le) (cases_lt n 1),
-  ⊎_elim (λ (lt : 65536 < n). none_is (items_in records no_bytes n) (there no_bytes) (items_out no_bytes records n (inr lt))) (λ (le : n ≤ 65536). le) (cases_lt 65536 n),
+  ⊎_elim (λ (lt : max_items < n). none_is (items_in records no_bytes n) (there no_bytes) (items_out no_bytes records n (inr lt))) (λ (le : n ≤ max_items). le) (cases_lt max_items n),
 )
 
 pub data_length : (bytes : ℕ → List ℕ) (r : Record) → length (entry_of bytes r).bytes ≡ r.length
@@ -137,13 +138,13 @@ other_told finds meta size told (Some x) there tells is other = sym (other_kind 
 -- ---- the entry of a number
 
 -- the key of a number is no more than a word
-pub key_fits : (n : ℕ) → n ≤ 65536 → Fits w64 (2 ^ 62 + n)
+pub key_fits : (n : ℕ) → n ≤ max_items → Fits w64 (2 ^ 62 + n)
 key_fits n high = omega arith
 
 pub key_there : (records : Records) (n : ℕ) → IsThere records n → Fits w64 (2 ^ 62 + n)
 key_there records n there = key_fits n (number_low records n there).1
 
-module _ (finds : FindsItems) (records : Records) (rising : Rising records) (n : ℕ) (low : 1 ≤ n) (high : n ≤ 65536) where
+module _ (finds : FindsItems) (records : Records) (rising : Rising records) (n : ℕ) (low : 1 ≤ n) (high : n ≤ max_items) where
   row_says : (r : Record) (o : Option ItemRow) → item_of r.meta r.length ≡ o → (bytes : ℕ → List ℕ) → o ≡ option_map placed_row (placed_of (entry_of bytes r))
   row_says r None none bytes = sym (ap (λ (x : Option Placed). option_map placed_row x) (row_nowhere r none bytes))
   row_says r (Some row) some bytes =

@@ -15,6 +15,7 @@ use Rattle.tm_volume.specs.Reads.{SideReads, tag_bytes}
 use Rattle.tm_volume.specs.Room.{body_of}
 use Rattle.tm_volume_records.specs.Rules.{Tag, IsTagged, IsGoodVolume, IsLeastBad}
 use Rattle.tm_volume.specs.Stored.{StoredVolume}
+use Rattle.tm_base.specs.Limits.{max_blocks}
 
 -- the item that a walk comes to, with a file's length in place of its bytes, or why the walk stops
 abbrev pub FindsRow : Result Item Refused → Result ItemRow LineFault → Type 0
@@ -35,7 +36,7 @@ FailsVolume image other place = Fails OfVolume image.count image.bytes other pla
 
 -- one check fails, at one place
 abbrev pub OneVolumeFailure : Type 0
-OneVolumeFailure = (image : Image) (why why2 : Cause) (place place2 : ℕ) → image.count ≤ 262144
+OneVolumeFailure = (image : Image) (why why2 : Cause) (place place2 : ℕ) → image.count ≤ max_blocks
     → FailsVolume image why place → FailsVolume image why2 place2 → (why2 ≡ why) × (place2 ≡ place)
 
 -- a volume that was not closed cleanly and has the last generation
@@ -47,5 +48,5 @@ pub record IsSpent (s : Option StoredVolume) : Type 0 where
 
 -- no check fails of an image that reads as something, but that the generations are spent
 abbrev pub ReadsOrFailsVolume : Type 0
-ReadsOrFailsVolume = (image : Image) (s : Option StoredVolume) (why : Cause) (place : ℕ) → 3 ≤ image.count → image.count ≤ 262144
+ReadsOrFailsVolume = (image : Image) (s : Option StoredVolume) (why : Cause) (place : ℕ) → 3 ≤ image.count → image.count ≤ max_blocks
     → SideReads image s → FailsVolume image why place → (why ≡ cause.Spent) × IsSpent s

@@ -7,10 +7,10 @@ use Rattle.tm_nodes.specs.Attrs.{IsAttrs}
 use Rattle.tm_nodes.specs.Targets.{IsTarget}
 use Rattle.tm_tree.specs.declared.item.Item.{Item}
 use Rattle.tm_tree.specs.declared.item.Item.TheVariants.{Folder, File, Link}
-use Rattle.tm_tree.specs.Items.{attrs_of}
+use Rattle.tm_tree.specs.Items.{attrs_of, bytes_of}
 use Rattle.tm_tree.specs.Trees.{IsTree, item_at}
-use Rattle.tm_volume_records.specs.Records.{most_number}
 use Rattle.tm_volume.specs.Seen.{Seen, IsKept, tree_on}
+use Rattle.tm_base.specs.Limits.{max_items, max_file_bytes, max_names}
 
 -- a stamp that fits its field, and a link's target
 abbrev pub HasFields : Item → Type 0
@@ -18,20 +18,22 @@ HasFields (Folder attrs) = Unit {0}
 HasFields (File attrs stamp bytes) = stamp < 2 ^ 64
 HasFields (Link attrs stamp target) = (stamp < 2 ^ 64) × IsTarget target
 
--- at most 64 names lead to it, each of which is one; its attributes keep their rules, and so do its fields
+-- at most as many names lead to it as a path may have, each of which is one; its attributes keep their rules, and so do its fields; it has no more
+-- bytes than a file may have
 pub record HasBounds (p : Names) (e : Item) : Type 0 where
-  pub short : length p ≤ 64
+  pub short : length p ≤ max_names
   pub names : All IsName p
   pub attrs : IsAttrs (attrs_of e)
   pub fields : HasFields e
+  pub size : length (bytes_of e) ≤ max_file_bytes
 
 -- the items of a volume are a tree
 abbrev pub KeptIsTree : Type 0
 KeptIsTree = (m : Seen) (bytes : ℕ → List ℕ) → IsKept m → IsTree (tree_on m bytes)
 
--- there are at most 65,536
+-- there are at most as many as a volume may have
 abbrev pub KeptAreFew : Type 0
-KeptAreFew = (m : Seen) (bytes : ℕ → List ℕ) → IsKept m → length (tree_on m bytes) ≤ most_number
+KeptAreFew = (m : Seen) (bytes : ℕ → List ℕ) → IsKept m → length (tree_on m bytes) ≤ max_items
 
 -- each keeps the bounds of records
 abbrev pub ItemsKeepBounds : Type 0

@@ -12,13 +12,17 @@ use Rattle.tm_items.specs.Index.{Numbers, IsIndex, SetsAt}
 use Rattle.tm_items.specs.Places.{at_name}
 use Rattle.tm_items.specs.Rules.{IsSound}
 use Rattle.tm_nodes.specs.Records.{volume_of, paths_of}
+use Rattle.tm_records.specs.declared.record.Body.{Body}
+use Rattle.tm_records.specs.declared.record.Body.TheVariants.{Kept, Empty, New}
+use Rattle.tm_records.specs.declared.record.Put.{Put}
 use Rattle.tm_records.specs.Records.{at}
 use Rattle.tm_volume.specs.declared.edit.Edit.{Edit}
 use Rattle.tm_volume.specs.declared.edit.Entered.{Entered}
 use Rattle.tm_volume.specs.declared.edit.Left.{Left}
-use Rattle.tm_volume_records.specs.Records.{head_key, entry_at}
+use Rattle.tm_volume_records.specs.Records.{head_key, item_key, entry_at}
 use Rattle.tm_volume_records.specs.Rules.{Tag, IsGoodVolume}
 use Rattle.tm_volume.specs.Seen.{Seen, entries_on, items_on}
+use Rattle.tm_base.specs.Limits.{max_file_bytes}
 
 -- the tag after a change: the mark is off
 abbrev pub next_tag : Seen → Edit → Tag
@@ -54,10 +58,21 @@ abbrev pub IsFree : Option Entered → Numbers → Type 0
 IsFree None numbers = Unit {0}
 IsFree (Some e) numbers = numbers (at_name e.parent e.name) ≡ None
 
+-- data with no more bytes than a file may have
+abbrev pub IsShortBody : Body → Type 0
+IsShortBody Kept = Unit {0}
+IsShortBody Empty = Unit {0}
+IsShortBody (New blob) = blob.length ≤ max_file_bytes
+
+-- a put that brings an item no more than that
+abbrev pub IsShortPut : Put → Type 0
+IsShortPut p = (n : ℕ) → 1 ≤ n → p.key ≡ item_key n → IsShortBody p.body
+
 -- an edit that can be made: the items stay sound, whatever the bytes of their data, and the index follows
 pub record IsEdit (m : Seen) (e : Edit) : Type 0 where
   pub rising : IsStrictlyIncreasing e.remove.items
   pub put : All (IsPut m.image.records) e.put.items
+  pub lengths : All IsShortPut e.put.items
   pub head : option_map (λ r. volume_of r.meta) (at head_key (changed e.remove.items e.put.items m.image.records)) ≡ Some (Some m.head)
   pub next_least : m.tag.next ≤ e.next
   pub next_most : e.next ≤ 2 ^ 62

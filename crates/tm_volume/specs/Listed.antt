@@ -14,6 +14,7 @@ use Rattle.tm_tree.specs.declared.node.LeafRow.TheVariants as leaf
 use Rattle.tm_tree.specs.declared.record.ItemBody.{ItemBody}
 use Rattle.tm_tree.specs.declared.record.ItemBody.TheVariants as body
 use Rattle.tm_volume_records.specs.Records.{items_in, IsThere}
+use Rattle.tm_base.specs.Limits.{max_names}
 
 -- what a listing says of an item, by its record
 abbrev pub listed_body : ItemBody → ListKind
@@ -43,5 +44,5 @@ pub record HasListed (records : Records) (numbers : Numbers) (k : ℕ) (rows : L
 
 -- the item under a number is put at its path, if one stands there
 pub record AddsItem (items : Items) (n : ℕ) (old new : Tree) : Type 0 where
-  pub there : (x : Placed) → items n ≡ Some x → new ≡ put old (path_to 64 items n) x.item
+  pub there : (x : Placed) → items n ≡ Some x → new ≡ put old (path_to max_names items n) x.item
   pub nowhere : items n ≡ None → new ≡ old

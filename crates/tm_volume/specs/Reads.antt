@@ -15,6 +15,7 @@ use Rattle.tm_world.specs.declared.world.Side.{Side}
 use Rattle.tm_volume_records.specs.Records.{head_key, journal_key, entry_at, placings_of}
 use Rattle.tm_volume_records.specs.Rules.{Tag, IsTagged, IsGoodVolume}
 use Rattle.tm_volume.specs.Stored.{StoredVolume}
+use Rattle.tm_base.specs.Limits.{max_blocks}
 
 -- the tag says this
 abbrev pub tag_bytes : Tag → List ℕ
@@ -73,7 +74,7 @@ pub record IsBlank (disk : Disk) : Type 0 where
 
 -- an image reads as at most one volume, and as none where it is unformatted
 abbrev pub OneSide : Type 0
-OneSide = (image : Image) (s t : Option StoredVolume) → image.count ≤ 262144 → SideReads image s → SideReads image t → s ≡ t
+OneSide = (image : Image) (s t : Option StoredVolume) → image.count ≤ max_blocks → SideReads image s → SideReads image t → s ≡ t
 
 -- a stop leaves an unformatted disk unformatted
 abbrev pub BlankLeaves : Type 0

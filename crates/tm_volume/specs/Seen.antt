@@ -18,7 +18,7 @@ use Rattle.tm_world.specs.Disk.{Disk}
 use Rattle.tm_world.specs.declared.world.Side.{Side}
 use Rattle.tm_volume_records.specs.Records.{head_key, journal_key, entry_at, placings_of}
 use Rattle.tm_volume.specs.Reads.{tag_bytes, LeavesSide}
-use Rattle.tm_volume_records.specs.Rules.{Tag, IsTagged, IsGoodVolume}
+use Rattle.tm_volume_records.specs.Rules.{Tag, AreShort, IsTagged, IsGoodVolume}
 use Rattle.tm_volume.specs.Stored.{StoredVolume}
 
 -- its image, its head, the fixed paths, the tag, and how many folders were listed
@@ -58,16 +58,17 @@ stored_on m bytes = record {
 
 -- ---- what a volume keeps, whatever the bytes of its data
 
--- the items keep their rules, and the index has the number of each place
+-- the items keep their rules and their lengths, and the index has the number of each place
 pub record IsShelf (m : Seen) (numbers : Numbers) : Type 0 where
   pub side : m.image.side ≡ Side.Volume
   pub tag_is : m.image.root.tag ≡ tag_bytes m.tag
   pub tagged : IsTagged m.tag
   pub head_is : option_map (λ r. volume_of r.meta) (at head_key m.image.records) ≡ Some (Some m.head)
   pub sound : (bytes : ℕ → List ℕ) → IsSound (items_on m bytes)
+  pub lengths : AreShort m.image.records
   pub index_is : (bytes : ℕ → List ℕ) → IsIndex (items_on m bytes) numbers
 
--- what every volume in memory keeps: its image, the tag, the head, and the items
+-- what every volume in memory keeps: its image, the tag, the head, and the items, of which none is longer than files may be
 pub record IsKept (m : Seen) : Type 0 where
   pub image : IsSoundImage m.image
   pub side : m.image.side ≡ Side.Volume
@@ -75,6 +76,7 @@ pub record IsKept (m : Seen) : Type 0 where
   pub tagged : IsTagged m.tag
   pub head_is : option_map (λ r. volume_of r.meta) (at head_key m.image.records) ≡ Some (Some m.head)
   pub sound : (bytes : ℕ → List ℕ) → IsSound (items_on m bytes)
+  pub lengths : AreShort m.image.records
 
 -- the rules of a volume and of its image hold, with some index
 pub record IsShelved (m : Seen) : Type 0 where

@@ -13,11 +13,13 @@ ghost use Rattle.tm_volume.specs.Stored.{new_stored};
 ghost use Rattle.tm_volume.specs.Blank.{first_puts, root_row};
 ghost use Rattle.tm_base.specs.Days.{last_moment};
 ghost use Rattle.tm_nodes.specs.Headers.{volume_text, IsVolumeHead};
+ghost use Rattle.tm_base.specs.Limits.{min_blocks, max_events, max_blocks};
 
 use crate::Volume;
 use crate::row::meta_of;
 use crate::tag::write_tag;
 use std::alloc::{AllocError, Global};
+use tm_base::limits::MIN_BLOCKS;
 use tm_base::{LineFault, Moment, Name};
 use tm_image::{Image, ImageError};
 use tm_index::Index;
@@ -26,9 +28,6 @@ use tm_records::{Body, Put};
 use tm_tree::{Attrs, ItemBody, ItemRow};
 use tm_volume_records::{FixedPaths, HEAD_KEY, ITEM_KEY};
 use tm_world::{Bytes, Side, World};
-
-/// The fewest blocks of a new volume.
-const FEWEST_BLOCKS: u32 = 8;
 
 /// The head of a new volume.
 fn new_head(name: &Name, id: u128, events: u32) -> Result<VolumeHead, AllocError>
@@ -104,22 +103,22 @@ impl Volume {
         moment: Moment,
     ) -> Result<Volume, LineFault>
         requires count { W.blocks world.old Side.Volume ≡ blocks }
-        requires most { blocks ≤ 262144 }
-        requires events { (1 ≤ events) × (events ≤ 65536) }
+        requires most { blocks ≤ max_blocks }
+        requires events { (1 ≤ events) × (events ≤ max_events) }
         requires blank { W.told → IsBlank (disk Side.Volume (now (W.log world.old))) }
         ensures any_moment { W.told → Runs Side.Volume (LeavesEither None (Some (new_stored name.now id events moment))) (W.log world.old) (W.log world.new) }
         ensures ready { IfOk result (λ v. IsReady v blocks) }
         ensures looks { IfOk result (λ v. v.looks ≡ 0) }
         ensures stands { W.told → IfOk result (λ v. StandsOn v (disk Side.Volume (now (W.log world.new)))) }
         ensures new { W.told → IfOk result (λ v. stored_on v (disk Side.Volume (now (W.log world.new))).bytes ≡ new_stored name.now id events moment) }
-        ensures small { blocks < 8 → result ≡ Err (LineFault.Refused Refused.Small) }
-        ensures refused { (why : Refused) → result ≡ Err (LineFault.Refused why) → (why ≡ Refused.Small) × (blocks < 8) }
+        ensures small { blocks < min_blocks → result ≡ Err (LineFault.Refused Refused.Small) }
+        ensures refused { (why : Refused) → result ≡ Err (LineFault.Refused why) → (why ≡ Refused.Small) × (blocks < min_blocks) }
         ensures blank { W.told → (result ≡ Err (LineFault.Refused Refused.Small)) ⊎ (result ≡ Err LineFault.Memory) → W.log world.new ≡ W.log world.old }
         ensures blocks { W.blocks world.new ≡ W.blocks world.old }
         ensures never_less { NeverLess (W.faults world.old) (W.faults world.new) }
         ensures fault { BlamesOnly RefusedSide.Volume result (W.faults world.old) (W.faults world.new) }
     {
-        if blocks < FEWEST_BLOCKS {
+        if blocks < MIN_BLOCKS {
             return Err(LineFault::Refused(tm_base::Refused::Small));
         }
         let head = new_head(name, id, events)?;

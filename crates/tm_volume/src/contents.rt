@@ -1,5 +1,5 @@
 //! All items with their contents.
-ghost use Rattle.std.specs.Prelude.{◌≡◌, ◌≤◌, ◌<◌, ℕ, Some, None, List, length, IfOk, IfSome, IfNone, OnOk, Err};
+ghost use Rattle.std.specs.Prelude.{◌≡◌, ◌≤◌, ◌<◌, ◌+◌, ℕ, Some, None, List, length, IfOk, IfSome, IfNone, OnOk, Err};
 ghost use Rattle.std.specs.Option.{option_map};
 ghost use Rattle.tm_base.specs.declared.refused.Refused.{Refused};
 ghost use Rattle.tm_base.specs.declared.refused.Side.{Side as RefusedSide};
@@ -15,21 +15,23 @@ ghost use Rattle.tm_volume_records.specs.Records.{item_key, items_in, placings_o
 ghost use Rattle.tm_volume.specs.Listed.{AddsItem};
 ghost use Rattle.tm_volume.specs.Room.{placed_row};
 ghost use Rattle.tm_volume.specs.Seen.{IsReady, tree_on};
+ghost use Rattle.tm_base.specs.Limits.{max_items, max_names};
 
 use crate::Volume;
 use crate::row::{found_row, item_row};
 use std::alloc::{AllocError, Global};
 use std::collections::BTreeMap;
+use tm_base::limits::{MAX_ITEMS, MAX_NAMES};
 use tm_base::{LineFault, Path};
 use tm_image::Image;
 use tm_tree::{Item, ItemBody, ItemRow, LeafRow};
-use tm_volume_records::{ITEM_KEY, MOST_NUMBER, first_from};
+use tm_volume_records::{ITEM_KEY, first_from};
 use tm_world::{Bytes, Side, World};
 
 /// The least number from `least` on under which a record stands, if there is one. It takes no memory.
 fn number_from(image: &Image, least: u64) -> Option<u64>
-    requires { (1 ≤ least) × (least ≤ 65_537) }
-    ensures some { IfSome result (λ n. (least ≤ n) × (n ≤ 65_536) × ((bytes : ℕ → List ℕ) (m : ℕ) → least ≤ m → m < n → items_in image.now.records bytes m ≡ None)) }
+    requires { (1 ≤ least) × (least ≤ max_items + 1) }
+    ensures some { IfSome result (λ n. (least ≤ n) × (n ≤ max_items) × ((bytes : ℕ → List ℕ) (m : ℕ) → least ≤ m → m < n → items_in image.now.records bytes m ≡ None)) }
     ensures none { IfNone result ((bytes : ℕ → List ℕ) (m : ℕ) → least ≤ m → items_in image.now.records bytes m ≡ None) }
 {
     // The total comes with the order of the records.
@@ -37,7 +39,7 @@ fn number_from(image: &Image, least: u64) -> Option<u64>
     match first_from(image, ITEM_KEY + least) {
         Some(key) => {
             let number = key - ITEM_KEY;
-            if number <= MOST_NUMBER {
+            if number <= MAX_ITEMS {
                 Some(number)
             } else {
                 None
@@ -48,10 +50,10 @@ fn number_from(image: &Image, least: u64) -> Option<u64>
 }
 
 /// The path of the item under a number where one stands, over at most so many folders.
-fn path_of(alloc: Global, image: &Image, number: u64, steps: u32) -> Result<Path, AllocError>
+fn path_of(alloc: Global, image: &Image, number: u64, steps: usize) -> Result<Path, AllocError>
     requires sound { (bytes : ℕ → List ℕ) → IsSound (items_in image.now.records bytes) }
     requires there { IsThere image.now.records number }
-    requires steps { steps ≤ 64 }
+    requires steps { steps ≤ max_names }
     ensures path { IfOk result (λ path. (bytes : ℕ → List ℕ) → path ≡ path_to steps (items_in image.now.records bytes) number) }
     ensures short { IfOk result (λ path. length path ≤ steps) }
 {
@@ -77,7 +79,7 @@ fn read_data<W: World>(
     number: u64,
     count: u64,
 ) -> Result<Bytes, LineFault>
-    requires number { number ≤ 65_536 }
+    requires number { number ≤ max_items }
     requires blocks { length image.now.used ≡ W.blocks world.old Side.Volume }
     requires side { image.now.side ≡ Side.Volume }
     requires count { option_map (λ r. r.length) (at (item_key number) image.now.records) ≡ Some count }
@@ -103,7 +105,7 @@ fn whole_item<W: World>(
     number: u64,
     row: ItemRow,
 ) -> Result<Item, LineFault>
-    requires number { (1 ≤ number) × (number ≤ 65_536) }
+    requires number { (1 ≤ number) × (number ≤ max_items) }
     requires blocks { length image.now.used ≡ W.blocks world.old Side.Volume }
     requires side { image.now.side ≡ Side.Volume }
     requires row { (bytes : ℕ → List ℕ) → option_map placed_row (items_in image.now.records bytes number) ≡ Some row }
@@ -152,7 +154,7 @@ fn add_item<W: World>(
     items: &mut BTreeMap<Path, Item>,
     number: u64,
 ) -> Result<(), LineFault>
-    requires number { (1 ≤ number) × (number ≤ 65_536) }
+    requires number { (1 ≤ number) × (number ≤ max_items) }
     requires blocks { length image.now.used ≡ W.blocks world.old Side.Volume }
     requires side { image.now.side ≡ Side.Volume }
     requires sound { (bytes : ℕ → List ℕ) → IsSound (items_in image.now.records bytes) }
@@ -165,7 +167,7 @@ fn add_item<W: World>(
 {
     match found_row(alloc, image, number)? {
         Some(row) => {
-            let path = path_of(alloc, image, number, 64)?;
+            let path = path_of(alloc, image, number, MAX_NAMES)?;
             let item = whole_item(alloc, image, world, number, row)?;
             items.insert(path, item)?;
             Ok(())

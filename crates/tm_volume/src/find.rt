@@ -38,12 +38,7 @@ impl Volume {
     pub fn find(&self, path: &Path) -> Result<ItemRow, LineFault>
         ensures { (bytes : ℕ → List ℕ) → FindsRow (walk (tree_on self.now bytes) path.now) result }
     {
-        match self.number_at(path) {
-            Ok(number) => match item_row(self.alloc, &self.image, number) {
-                Ok(row) => Ok(row),
-                Err(_) => Err(LineFault::Memory),
-            },
-            Err(why) => Err(LineFault::Refused(why)),
-        }
+        let number = self.number_at(path)?;
+        Ok(item_row(self.alloc, &self.image, number)?)
     }
 }

@@ -19,5 +19,6 @@ mod tag;
 mod volume;
 
 pub use edit::{Edit, Entered, Left};
+pub use numbers::MAX_NEXT;
 pub use row::meta_of;
 pub use volume::{Volume, VolumeInfo};

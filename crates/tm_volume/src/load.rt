@@ -8,6 +8,7 @@ ghost use Rattle.tm_world.specs.Outside.{disk};
 ghost use Rattle.tm_world.specs.declared.cause.Cause.{Cause as OfCause};
 ghost use Rattle.tm_volume.specs.Answers.{FailsVolume};
 ghost use Rattle.tm_volume.specs.Seen.{IsReady, StandsOn};
+ghost use Rattle.tm_base.specs.Limits.{max_blocks};
 
 use crate::Volume;
 use crate::tag::read_tag;
@@ -27,7 +28,7 @@ impl Volume {
     /// fails, and `Fault` only where the volume's count of faults rose. No folder was listed yet.
     pub fn load<W: World>(alloc: Global, world: &mut W, blocks: u32) -> Result<Volume, LoadError>
         requires count { W.blocks world.old Side.Volume ≡ blocks }
-        requires small { blocks ≤ 262144 }
+        requires small { blocks ≤ max_blocks }
         requires stable { W.told → (b : ℕ) → (disk Side.Volume (now (W.log world.old))).loose b ≡ false }
         ensures ready { IfOk result (λ v. IsReady v blocks) }
         ensures looks { IfOk result (λ v. v.looks ≡ 0) }

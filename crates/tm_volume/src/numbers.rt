@@ -1,26 +1,28 @@
 //! Numbers of items, and those that are drawn.
-ghost use Rattle.std.specs.Prelude.{◌≡◌, ◌≤◌, ◌<◌, ◌+◌, ◌^◌, ℕ, List, true, None, IfSome, IfNone, is_some, length};
+ghost use Rattle.std.specs.Prelude.{◌≡◌, ◌≤◌, ◌<◌, ◌+◌, ◌^◌, ℕ, List, None, IfSome, IfNone, is_some, is_none, length};
 ghost use Rattle.tm_index.specs.Folders.{numbers_in};
 ghost use Rattle.tm_tree.specs.Trees.{item_at};
 ghost use Rattle.tm_volume_records.specs.Rules.{IsGoodVolume};
-ghost use Rattle.tm_volume.specs.FreeNumbers.{IsUnused};
+ghost use Rattle.tm_volume.specs.FreeNumbers.{AreTaken, IsUnused, counted_items};
 ghost use Rattle.tm_volume.specs.Seen.{IsShelf, entries_on, items_on, tree_on};
 ghost use Rattle.tm_records.specs.Records.{at};
 ghost use Rattle.tm_volume_records.specs.Records.{item_key};
+ghost use Rattle.tm_base.specs.Limits.{max_items};
 
 use crate::Volume;
 use tm_base::Path;
+use tm_base::limits::MAX_ITEMS;
 use tm_image::Image;
 use tm_index::Index;
-use tm_volume_records::{ITEM_KEY, JOURNAL_KEY, MOST_NUMBER};
+use tm_volume_records::{ITEM_KEY, JOURNAL_KEY};
 
 /// The greatest next number.
-const MOST_NEXT: u64 = 1 << 62;
+pub const MAX_NEXT: u64 = 1 << 62;
 
 /// Whether no record stands at the key of a number.
 fn is_unused(image: &Image, number: u64) -> bool
-    requires { number ≤ 65536 }
-    ensures { result ≡ true → at (item_key number) image.now.records ≡ None }
+    requires { number ≤ max_items }
+    ensures { result ≡ is_none (at (item_key number) image.now.records) }
 {
     image.length(ITEM_KEY + number).is_none()
 }
@@ -50,7 +52,7 @@ impl Volume {
         ensures least { 1 ≤ self.now.tag.next }
     {
         let next = self.next + count;
-        if next <= MOST_NEXT { Some(next) } else { None }
+        if next <= MAX_NEXT { Some(next) } else { None }
     }
 
     /// Whether something stands at a path. It takes no memory.
@@ -67,7 +69,8 @@ impl Volume {
 
     /// How many items there are. It takes no memory.
     pub fn item_count(&self) -> u64
-        ensures { (bytes : ℕ → List ℕ) → IsGoodVolume (entries_on self.now bytes) self.now.tag → result ≡ length (tree_on self.now bytes) }
+        ensures records { result ≡ counted_items self.now.image.records }
+        ensures tree { (bytes : ℕ → List ℕ) → IsGoodVolume (entries_on self.now bytes) self.now.tag → result ≡ length (tree_on self.now bytes) }
     {
         // The total comes with the rules that the image keeps.
         let _ = self.image.total();
@@ -78,18 +81,21 @@ impl Volume {
         self.image.count().saturating_sub(1 + journal)
     }
 
-    /// A number that no item has; none only where all are taken. It takes no memory.
+    /// A number that no item has; none only where all are taken, and then there are as many items
+    /// as a volume may have. It takes no memory.
     pub fn free_number(&self) -> Option<u64>
         ensures some { IfSome result (λ n. (bytes : ℕ → List ℕ) → IsUnused (items_on self.now bytes) n) }
         ensures key { IfSome result (λ n. at (item_key n) self.now.image.records ≡ None) }
+        ensures none { IfNone result (AreTaken self.now.image.records) }
+        ensures many { IfNone result (max_items ≤ counted_items self.now.image.records) }
     {
         // The total comes with the order of the records.
         let _ = self.image.total();
         let hint = self.image.count();
-        if hint >= 2 && hint <= MOST_NUMBER && is_unused(&self.image, hint) {
+        if hint >= 2 && hint <= MAX_ITEMS && is_unused(&self.image, hint) {
             return Some(hint);
         }
-        for number in 2..MOST_NUMBER + 1 {
+        for number in 2..MAX_ITEMS + 1 {
             if is_unused(&self.image, number) {
                 return Some(number);
             }

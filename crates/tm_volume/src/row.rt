@@ -6,6 +6,7 @@ ghost use Rattle.tm_nodes.specs.Items.{item_text, IsItemRow};
 ghost use Rattle.tm_nodes.specs.Records.{item_of};
 ghost use Rattle.tm_volume_records.specs.Records.{items_in, IsThere};
 ghost use Rattle.tm_volume.specs.Room.{placed_row};
+ghost use Rattle.tm_base.specs.Limits.{max_items};
 
 use crate::Volume;
 use std::alloc::{AllocError, Global};
@@ -30,7 +31,7 @@ pub fn meta_of(alloc: Global, row: &ItemRow) -> Result<Bytes, AllocError>
 /// The meta and the length of the data of the record under a number, if one is there. It takes no
 /// memory.
 fn item_entry(image: &Image, number: u64) -> Option<(&[u8], u64)>
-    requires { (1 ≤ number) × (number ≤ 65_536) }
+    requires { (1 ≤ number) × (number ≤ max_items) }
     ensures some { IfSome result (λ e. (bytes : ℕ → List ℕ) → item_of e.0.now e.1 ≡ option_map placed_row (items_in image.now.records bytes number)) }
     ensures none { IfNone result ((bytes : ℕ → List ℕ) → items_in image.now.records bytes number ≡ None) }
 {
@@ -67,7 +68,7 @@ pub(crate) fn found_row(
     image: &Image,
     number: u64,
 ) -> Result<Option<ItemRow>, AllocError>
-    requires { (1 ≤ number) × (number ≤ 65_536) }
+    requires { (1 ≤ number) × (number ≤ max_items) }
     ensures { IfOk result (λ found. (bytes : ℕ → List ℕ) → option_map placed_row (items_in image.now.records bytes number) ≡ found) }
 {
     let Some((meta, length)) = item_entry(image, number) else {

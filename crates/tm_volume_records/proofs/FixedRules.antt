@@ -19,6 +19,7 @@ use Rattle.tm_nodes.specs.Records.{machine_of}
 use Rattle.tm_tree.specs.Contents.{is_fixed, with_fixed, without_fixed}
 use Rattle.tm_volume_records.proofs.FixedLists.{path_total, insert_sorted, insert_length, insert_there, insert_gap, remove_there, remove_gap, comparisons_rise, IsGap, remove_sorted, remove_shorter}
 use Rattle.tm_nodes.proofs.Fields.{name_had}
+use Rattle.tm_base.specs.Limits.{max_fixed}
 
 -- no paths
 pub no_paths : ArePaths []
@@ -26,7 +27,7 @@ unfolding IsStrictlySortedBy
 no_paths = record { few = omega arith; each = λ k d lt. absurd (omega (arith, lt)); no_root = λ k d lt. absurd (omega (arith, lt)); rising = tt }
 
 -- with a path that isn't the root, as long as they are not too many
-pub with_paths : (ks : List Names) (x : Names) → ArePaths ks → IsPath x → is_root x ≡ false → length (with_fixed ks x) ≤ 256 → ArePaths (with_fixed ks x)
+pub with_paths : (ks : List Names) (x : Names) → ArePaths ks → IsPath x → is_root x ≡ false → length (with_fixed ks x) ≤ max_fixed → ArePaths (with_fixed ks x)
 with_paths ks x old is below few = record {
   few = few;
   each = All-insert_key path_cmp x IsPath ks old.each is;
@@ -35,8 +36,8 @@ with_paths ks x old is below few = record {
 }
 
 -- how many they are with a path
-pub with_few : (ks : List Names) (x : Names) → ArePaths ks → (if is_fixed ks x then length ks else length ks + 1) ≤ 256 → length (with_fixed ks x) ≤ 256
-with_few ks x old few = subst (λ (n : ℕ). n ≤ 256) (sym (insert_length path_total x ks old.rising)) few
+pub with_few : (ks : List Names) (x : Names) → ArePaths ks → (if is_fixed ks x then length ks else length ks + 1) ≤ max_fixed → length (with_fixed ks x) ≤ max_fixed
+with_few ks x old few = subst (λ (n : ℕ). n ≤ max_fixed) (sym (insert_length path_total x ks old.rising)) few
 
 -- without a path
 pub without_paths : (ks : List Names) (x : Names) → ArePaths ks → ArePaths (without_fixed ks x)

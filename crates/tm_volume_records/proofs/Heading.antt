@@ -20,6 +20,7 @@ use Rattle.tm_volume_records.specs.Records.{head_key, journal_key, entry_at}
 use Rattle.tm_volume_records.specs.Rules.{Tag, HasHead, HasJournal, IsJournal}
 use Rattle.tm_volume_records.proofs.Slots.{entry_is}
 use Rattle.tm_base.proofs.Facts.{some_is}
+use Rattle.tm_base.specs.Limits.{max_events}
 
 pub bad_at : (A : Type 0) (error : LoadError) (key : ℕ) (P : Type 0) → error ≡ Bad cause.Record key → P → IfBadAt {A = A} (Err error) key P
 bad_at A error key P is p = subst (λ (e : LoadError). IfBadAt {A = A} (Err e) key P) (sym is) (refl, refl, p)
@@ -83,13 +84,13 @@ module _ (bytes : ℕ → List ℕ) (records : Records) where
   pub no_meta : (meta : List ℕ) → option_map (λ r. r.meta) (at head_key records) ≡ Some meta → volume_of meta ≡ None → ¬ HasHead (entries_of bytes records)
   no_meta meta is none has = let bad : None ≡ Some has.head.head = sym none ∙ meta_of meta is has in cc
 
-  pub no_capacity : (meta : List ℕ) (head : VolumeHead) → option_map (λ r. r.meta) (at head_key records) ≡ Some meta → volume_of meta ≡ Some head → (head.capacity < 1) ⊎ (65536 < head.capacity) → ¬ HasHead (entries_of bytes records)
+  pub no_capacity : (meta : List ℕ) (head : VolumeHead) → option_map (λ r. r.meta) (at head_key records) ≡ Some meta → volume_of meta ≡ Some head → (head.capacity < 1) ⊎ (max_events < head.capacity) → ¬ HasHead (entries_of bytes records)
   no_capacity meta head is reads out has =
       let same : head ≡ has.head.head = some_is head has.head.head (sym reads ∙ meta_of meta is has) in
       let capacity : head.capacity ≡ has.head.head.capacity = ap (λ (h : VolumeHead). h.capacity) same in
       ⊎_elim
       (λ (low : head.capacity < 1). omega (arith, low, capacity, has.head.capacity.0))
-      (λ (high : 65536 < head.capacity). omega (arith, high, capacity, has.head.capacity.1))
+      (λ (high : max_events < head.capacity). omega (arith, high, capacity, has.head.capacity.1))
       out
 
   pub head_in : (meta : List ℕ) (head : VolumeHead) → option_map (λ r. r.meta) (at head_key records) ≡ Some meta → volume_of meta ≡ Some head → HeadIn records head
@@ -113,7 +114,7 @@ module _ (bytes : ℕ → List ℕ) (records : Records) where
       of_option None there is = cc
       of_option (Some r) there is = ap Some (ap paths_of (sym is) ∙ reads)
 
-  pub has_head : (head : VolumeHead) (fixed : List Names) → HeadIn records head → (1 ≤ head.capacity) × (head.capacity ≤ 65536)
+  pub has_head : (head : VolumeHead) (fixed : List Names) → HeadIn records head → (1 ≤ head.capacity) × (head.capacity ≤ max_events)
       → option_map (λ e. paths_of e.bytes) (entry_at head_key (entries_of bytes records)) ≡ Some (Some fixed) → HasHead (entries_of bytes records)
   has_head head fixed head_is capacity fixed_is = of_option (at head_key records) head_is (entry_at head_key (entries_of bytes records)) refl (entry_is bytes head_key records) fixed_is
     where

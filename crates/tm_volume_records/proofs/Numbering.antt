@@ -23,6 +23,7 @@ use Rattle.tm_volume_records.specs.Loads.{row_of_record, row_in, is_folder_body,
 use Rattle.tm_volume_records.specs.Records.{item_key, item_with, placed_with, placed_of}
 use Rattle.tm_volume_records.proofs.Entering.{data_length}
 use Rattle.tm_volume_records.proofs.Slots.{Rising, placed_rec, items_at, items_out}
+use Rattle.tm_base.specs.Limits.{max_items, max_names}
 
 pub if_ok : {T E : Type 0} (r : Result T E) (P Q R : T → Type 0) → ((x : T) → P x → Q x → R x) → IfOk r P → IfOk r Q → IfOk r R
 if_ok (Ok x) P Q R f p q = f x p q
@@ -99,16 +100,16 @@ folder_position items positions are n = ap is_folder_position (are.each n) ∙ o
     of_item (Some x) = refl
 
 module _ (records : Records) (rising : Rising records) (bytes : ℕ → List ℕ) where
-  pub are_positions : (positions : List (Option Position)) → ArePositionsBelow records 65537 positions → ArePositions (items_from records bytes) positions
+  pub are_positions : (positions : List (Option Position)) → ArePositionsBelow records (max_items + 1) positions → ArePositions (items_from records bytes) positions
   are_positions positions below = record { each = each }
     where
       each : (n : ℕ) → position_at positions n ≡ option_map position_of (items_from records bytes n)
       each n = ⊎_elim
           (λ (zero_is : n < 1). let e : n ≡ 0 = omega (arith, zero_is) in ap (position_at positions) e ∙ below.none ∙ ap (option_map position_of) (sym (items_out bytes records n (inl zero_is))))
           (λ (least : 1 ≤ n). ⊎_elim
-          (λ (lt : n < 65537). below.each n least lt ∙ sym (position_of_rec bytes (at (item_key n) records)) ∙ ap (option_map position_of) (sym (items_at bytes records n least (omega (arith, lt)) rising)))
-          (λ (high : 65537 ≤ n). ap position_or (slice_get_past positions n (omega (arith, below.many, high))) ∙ ap (option_map position_of) (sym (items_out bytes records n (inr (omega (arith, high))))))
-          (cases_lt n 65537))
+          (λ (lt : n < max_items + 1). below.each n least lt ∙ sym (position_of_rec bytes (at (item_key n) records)) ∙ ap (option_map position_of) (sym (items_at bytes records n least (omega (arith, lt)) rising)))
+          (λ (high : max_items + 1 ≤ n). ap position_or (slice_get_past positions n (omega (arith, below.many, high))) ∙ ap (option_map position_of) (sym (items_out bytes records n (inr (omega (arith, high))))))
+          (cases_lt n (max_items + 1)))
           (cases_lt n 1)
 
   pub root_is : is_root_placed (items_from records bytes 1) ≡ is_root_row (row_in records 1)
@@ -116,7 +117,7 @@ module _ (records : Records) (rising : Rising records) (bytes : ℕ → List ℕ
 
   -- ---- a number more
 
-  module _ (positions : List (Option Position)) (below : ArePositionsBelow records 65537 positions) (n : ℕ) (least : 2 ≤ n) (most : n ≤ 65536) (numbers : Numbers) (loaded : IsLoaded (items_from records bytes) n numbers) where
+  module _ (positions : List (Option Position)) (below : ArePositionsBelow records (max_items + 1) positions) (n : ℕ) (least : 2 ≤ n) (most : n ≤ max_items) (numbers : Numbers) (loaded : IsLoaded (items_from records bytes) n numbers) where
     pub skips : position_at positions n ≡ None → IsLoaded (items_from records bytes) (n + 1) numbers
     skips none = load_skips (items_from records bytes) n numbers loaded least (position_none (items_from records bytes) positions (are_positions positions below) n none)
 
@@ -130,7 +131,7 @@ module _ (records : Records) (rising : Rising records) (bytes : ℕ → List ℕ
       pub no_folder : is_folder_position (position_at positions position.parent) ≡ false → ¬ FollowsRules (items_from records bytes) n
       no_folder h = folder_breaks (items_from records bytes) n has.placed least has.is (in_folder ∙ h)
 
-      pub too_deep : climbs 64 (items_from records bytes) n ≡ false → ¬ FollowsRules (items_from records bytes) n
+      pub too_deep : climbs max_names (items_from records bytes) n ≡ false → ¬ FollowsRules (items_from records bytes) n
       too_deep h = depth_breaks (items_from records bytes) n has.placed least has.is h
 
       pub no_name : position.name ≡ None → ¬ FollowsRules (items_from records bytes) n
@@ -147,24 +148,24 @@ module _ (records : Records) (rising : Rising records) (bytes : ℕ → List ℕ
             of_number None e s = cc
             of_number (Some k) e s = place_breaks (items_from records bytes) n k has.placed numbers loaded least has.is e
 
-        pub takes : (new : Numbers) → is_folder_position (position_at positions position.parent) ≡ true → climbs 64 (items_from records bytes) n ≡ true → numbers (at_name position.parent name) ≡ None
+        pub takes : (new : Numbers) → is_folder_position (position_at positions position.parent) ≡ true → climbs max_names (items_from records bytes) n ≡ true → numbers (at_name position.parent name) ≡ None
             → SetsAt (at_name position.parent name) (Some n) numbers new → IsLoaded (items_from records bytes) (n + 1) new
         takes new folder near free sets = load_takes (items_from records bytes) n has.placed numbers new loaded least has.is (in_folder ∙ folder) near
             (ap is_some (has.name ∙ called)) (ap numbers (sym place_is) ∙ free) (subst (λ p. SetsAt p (Some n) numbers new) place_is sets)
 
 -- ---- the walk over parents
 
-module _ (items : Items) (positions : List (Option Position)) (are : ArePositions items positions) (number at step : ℕ) (so_far : climbs 64 items number ≡ climbs (64 - step) items at) where
-  pub walk_here : at ≡ 1 → true ≡ climbs 64 items number
-  walk_here h = sym (so_far ∙ climbs_root items (64 - step) at h)
+module _ (items : Items) (positions : List (Option Position)) (are : ArePositions items positions) (number at step : ℕ) (so_far : climbs max_names items number ≡ climbs (max_names - step) items at) where
+  pub walk_here : at ≡ 1 → true ≡ climbs max_names items number
+  walk_here h = sym (so_far ∙ climbs_root items (max_names - step) at h)
 
-  pub walk_stops : (at ≡ 1 → ⊥) → position_at positions at ≡ None → false ≡ climbs 64 items number
-  walk_stops h none = sym (so_far ∙ climbs_none items (64 - step) at h (position_none items positions are at none))
+  pub walk_stops : (at ≡ 1 → ⊥) → position_at positions at ≡ None → false ≡ climbs max_names items number
+  walk_stops h none = sym (so_far ∙ climbs_none items (max_names - step) at h (position_none items positions are at none))
 
-  pub walk_more : step < 64 → (at ≡ 1 → ⊥) → (position : Position) → position_at positions at ≡ Some position → climbs 64 items number ≡ climbs (64 - (step + 1)) items position.parent
+  pub walk_more : step < max_names → (at ≡ 1 → ⊥) → (position : Position) → position_at positions at ≡ Some position → climbs max_names items number ≡ climbs (max_names - (step + 1)) items position.parent
   walk_more low h position some =
       let s = position_some items positions are at position some in
-      so_far ∙ climbs_up items step at s.placed low h s.is ∙ ap (climbs (64 - (step + 1)) items) s.parent
+      so_far ∙ climbs_up items step at s.placed low h s.is ∙ ap (climbs (max_names - (step + 1)) items) s.parent
 
-  pub walk_ends : 64 ≤ step → (at == 1) ≡ climbs 64 items number
-  walk_ends h = sym (so_far ∙ climbs_end items (64 - step) at (omega (arith, h)))
+  pub walk_ends : max_names ≤ step → (at == 1) ≡ climbs max_names items number
+  walk_ends h = sym (so_far ∙ climbs_end items (max_names - step) at (omega (arith, h)))

@@ -11,10 +11,11 @@ use Rattle.tm_records.specs.declared.record.Record.{Record}
 use Rattle.tm_records.specs.Records.{Records, at}
 use Rattle.tm_world.specs.declared.cause.Cause.TheVariants as cause
 use Rattle.tm_volume_records.specs.Loads.{IfBadAt, IfBadKey, ArePassed, IsOwn, KeepsOwn, IsFirstBad, items_from}
-use Rattle.tm_volume_records.specs.Records.{item_key, most_number, entry_at}
+use Rattle.tm_volume_records.specs.Records.{item_key, entry_at}
 use Rattle.tm_volume_records.specs.Rules.{Tag, HasData, HasHead, HasJournal, HasItem, IsItem, IsGoodKey, IsGoodVolume, IsLeastBad}
 use Rattle.tm_volume_records.proofs.Entering.{data_length}
 use Rattle.tm_volume_records.proofs.Slots.{entry_is}
+use Rattle.tm_base.specs.Limits.{max_items}
 
 -- ---- answers
 
@@ -54,12 +55,12 @@ item_own bytes next (Some r) h = record {
 
 -- a key apart from all those of a volume
 abbrev IsApart : ℕ → Type 0
-IsApart key = (key ≢ 1) × (key ≢ 2) × ((n : ℕ) → 1 ≤ n → n ≤ 65536 → key ≢ 2 ^ 62 + n)
+IsApart key = (key ≢ 1) × (key ≢ 2) × ((n : ℕ) → 1 ≤ n → n ≤ max_items → key ≢ 2 ^ 62 + n)
 
 low_apart : (key : ℕ) → (key ≢ 1) → (key ≢ 2) → key ≤ 2 ^ 62 → IsApart key
 low_apart key one two low = (one, two, λ n least most same. omega (arith, same, least, low))
 
-high_apart : (key : ℕ) → 2 ^ 62 + 65537 ≤ key → IsApart key
+high_apart : (key : ℕ) → 2 ^ 62 + (max_items + 1) ≤ key → IsApart key
 high_apart key high = ((λ same. omega (arith, same, high)), (λ same. omega (arith, same, high)), λ n least most same. omega (arith, same, most, high))
 
 module _ (bytes : ℕ → List ℕ) (records : Records) (tag : Tag) where
@@ -89,7 +90,7 @@ module _ (bytes : ℕ → List ℕ) (records : Records) (tag : Tag) where
       (λ (is : key ≡ 1). apart.0 is)
       (λ rest. ⊎_elim
       (λ (is : key ≡ 2). apart.1 is)
-      (λ (item : (n : ℕ) × (1 ≤ n) × (n ≤ most_number) × (key ≡ item_key n)). apart.2 item.0 item.1 item.2 item.3)
+      (λ (item : (n : ℕ) × (1 ≤ n) × (n ≤ max_items) × (key ≡ item_key n)). apart.2 item.0 item.1 item.2 item.3)
       rest)
       (keeps.known (there key some))
 
@@ -109,7 +110,7 @@ module _ (bytes : ℕ → List ℕ) (records : Records) (tag : Tag) where
     item = λ n least most is. absurd (omega (arith, is));
   }
 
-  keeps_item : (n : ℕ) → 1 ≤ n → n ≤ 65536 → HasItem (entries_of bytes records) tag.next n → IsGoodKey (entries_of bytes records) tag (2 ^ 62 + n)
+  keeps_item : (n : ℕ) → 1 ≤ n → n ≤ max_items → HasItem (entries_of bytes records) tag.next n → IsGoodKey (entries_of bytes records) tag (2 ^ 62 + n)
   keeps_item n least most has = record {
     known = λ some. inr (inr (n, least, most, refl));
     head = λ is. absurd (omega (arith, is, least));
@@ -183,7 +184,7 @@ module _ (bytes : ℕ → List ℕ) (records : Records) (tag : Tag) where
   pub passed_low : ArePassed (entries_of bytes records) tag 3 → ((key : ℕ) → 3 ≤ key → key ≤ 2 ^ 62 → at key records ≡ None) → ArePassed (entries_of bytes records) tag (2 ^ 62 + 1)
   passed_low passed none = passed_to 3 (2 ^ 62 + 1) passed (λ key from lt. none key from (omega (arith, lt))) (λ key from lt. low_between key from (omega (arith, lt)))
 
-  passed_items : (n : ℕ) → ArePassed (entries_of bytes records) tag (2 ^ 62 + 1) → n ≤ 65537 → ((m : ℕ) → 1 ≤ m → m < n → HasItem (entries_of bytes records) tag.next m) → ArePassed (entries_of bytes records) tag (2 ^ 62 + n)
+  passed_items : (n : ℕ) → ArePassed (entries_of bytes records) tag (2 ^ 62 + 1) → n ≤ max_items + 1 → ((m : ℕ) → 1 ≤ m → m < n → HasItem (entries_of bytes records) tag.next m) → ArePassed (entries_of bytes records) tag (2 ^ 62 + n)
   passed_items n passed few has other lt = ⊎_elim
       (λ (before : other < 2 ^ 62 + 1). passed other before)
       (λ (from : 2 ^ 62 + 1 ≤ other).
@@ -198,15 +199,15 @@ module _ (bytes : ℕ → List ℕ) (records : Records) (tag : Tag) where
     below = passed_items n passed (omega (arith, first.most)) (λ m least lt. has_item m (first.own m least lt) (first.place bytes m lt));
   }
 
-  pub passed_all : ArePassed (entries_of bytes records) tag (2 ^ 62 + 1) → ((m : ℕ) → 1 ≤ m → m ≤ 65536 → KeepsOwn records tag.next m) → IsSound (items_from records bytes) → ArePassed (entries_of bytes records) tag (2 ^ 62 + 65537)
-  passed_all passed own sound = passed_items 65537 passed (omega arith) (λ m least lt. has_item m (own m least (omega (arith, lt))) (sound m))
+  pub passed_all : ArePassed (entries_of bytes records) tag (2 ^ 62 + 1) → ((m : ℕ) → 1 ≤ m → m ≤ max_items → KeepsOwn records tag.next m) → IsSound (items_from records bytes) → ArePassed (entries_of bytes records) tag (2 ^ 62 + (max_items + 1))
+  passed_all passed own sound = passed_items (max_items + 1) passed (omega arith) (λ m least lt. has_item m (own m least (omega (arith, lt))) (sound m))
 
-  pub bad_high : ArePassed (entries_of bytes records) tag (2 ^ 62 + 65537) → (key : ℕ) → IsSome (at key records) → 2 ^ 62 + 65537 ≤ key → ((other : ℕ) → 2 ^ 62 + 65537 ≤ other → other < key → at other records ≡ None)
+  pub bad_high : ArePassed (entries_of bytes records) tag (2 ^ 62 + (max_items + 1)) → (key : ℕ) → IsSome (at key records) → 2 ^ 62 + (max_items + 1) ≤ key → ((other : ℕ) → 2 ^ 62 + (max_items + 1) ≤ other → other < key → at other records ≡ None)
       → IsLeastBad (entries_of bytes records) tag key
-  bad_high passed key some from none = least_stray (2 ^ 62 + 65537) key passed some none (λ other le lt. high_apart other le) from
+  bad_high passed key some from none = least_stray (2 ^ 62 + (max_items + 1)) key passed some none (λ other le lt. high_apart other le) from
 
-  pub all_good : ArePassed (entries_of bytes records) tag (2 ^ 62 + 65537) → ((key : ℕ) → 2 ^ 62 + 65537 ≤ key → at key records ≡ None) → IsGoodVolume (entries_of bytes records) tag
+  pub all_good : ArePassed (entries_of bytes records) tag (2 ^ 62 + (max_items + 1)) → ((key : ℕ) → 2 ^ 62 + (max_items + 1) ≤ key → at key records ≡ None) → IsGoodVolume (entries_of bytes records) tag
   all_good passed none key = ⊎_elim
-      (λ (before : key < 2 ^ 62 + 65537). passed key before)
-      (λ (from : 2 ^ 62 + 65537 ≤ key). keeps_none key (none key from) (high_apart key from))
-      (cases_lt key (2 ^ 62 + 65537))
+      (λ (before : key < 2 ^ 62 + (max_items + 1)). passed key before)
+      (λ (from : 2 ^ 62 + (max_items + 1) ≤ key). keeps_none key (none key from) (high_apart key from))
+      (cases_lt key (2 ^ 62 + (max_items + 1)))

@@ -18,6 +18,7 @@ use Rattle.std.specs.Bool.{one_answer}
 use Rattle.tm_items.proofs.Reading.{number_decides}
 use Rattle.tm_volume_records.specs.Records.{item_key, is_item_key, entry_at, placed_of, numbered, placing_of, placings_of}
 use Rattle.tm_base.proofs.Facts.{both_true}
+use Rattle.tm_base.specs.Limits.{max_items}
 
 abbrev pub Rising : {X : Type 0} → List (ℕ × X) → Type 0
 Rising es = IsStrictlySortedBy nat_cmp (keys_of es)
@@ -42,13 +43,13 @@ same_test : (a b c d : ℕ) → a + d ≡ b + c → is_at (nat_cmp a) b ≡ is_a
 same_test a b c d h = one_answer (is_at (nat_cmp a) b) (is_at (nat_cmp c) d) (number_decides a b)
     (λ t. let e : c ≡ d = (number_decides c d).0 t in omega arith, λ e. (number_decides c d).1 (let f : c ≡ d = omega arith in f))
 
-pub key_range : (k : ℕ) → is_item_key k ≡ true → (2 ^ 62 + 1 ≤ k) × (k ≤ 2 ^ 62 + 65536)
+pub key_range : (k : ℕ) → is_item_key k ≡ true → (2 ^ 62 + 1 ≤ k) × (k ≤ 2 ^ 62 + max_items)
 key_range k h =
-    let lo = (both_true (nat_le (2 ^ 62 + 1) k) (nat_le k (2 ^ 62 + 65536)) h).0 in
-    let hi = (both_true (nat_le (2 ^ 62 + 1) k) (nat_le k (2 ^ 62 + 65536)) h).1 in
+    let lo = (both_true (nat_le (2 ^ 62 + 1) k) (nat_le k (2 ^ 62 + max_items)) h).0 in
+    let hi = (both_true (nat_le (2 ^ 62 + 1) k) (nat_le k (2 ^ 62 + max_items)) h).1 in
     (grind (arith, nat_tests), grind (arith, nat_tests))
 
-pub range_key : (k : ℕ) → 2 ^ 62 + 1 ≤ k → k ≤ 2 ^ 62 + 65536 → is_item_key k ≡ true
+pub range_key : (k : ℕ) → 2 ^ 62 + 1 ≤ k → k ≤ 2 ^ 62 + max_items → is_item_key k ≡ true
 range_key k lo hi = grind (arith, nat_tests)
 
 module _ {X : Type 0} where
@@ -103,7 +104,7 @@ module _ (bytes : ℕ → List ℕ) where
       ≡ placed_rec bytes (cond (is_at (nat_cmp (item_key n)) e.0) (Some e.1) (at (item_key n) es))
 
   -- what stands under a number is the item of the record at its key
-  pub items_at : (es : Records) (n : ℕ) → 1 ≤ n → n ≤ 65536 → Rising es → items_of (placings_on es) n ≡ placed_rec bytes (at (item_key n) es)
+  pub items_at : (es : Records) (n : ℕ) → 1 ≤ n → n ≤ max_items → Rising es → items_of (placings_on es) n ≡ placed_rec bytes (at (item_key n) es)
   items_at [] n lo hi s = ap (λ (ps : Placings). items_of ps n) placings_nil
   items_at (e ∷ es) n lo hi s =
       let more : items_of (placings_on es) n ≡ placed_rec bytes (at (item_key n) es) = items_at es n lo hi (rising_tail e es s) in
@@ -123,7 +124,7 @@ module _ (bytes : ℕ → List ℕ) where
             more ∙ ap (λ b. placed_rec bytes (cond b (Some e.1) (at (item_key n) es))) (sym off)
       ] refl
     where
-      other : (n k : ℕ) → 1 ≤ n → n ≤ 65536 → is_item_key k ≡ false → is_at (nat_cmp (item_key n)) k ≡ false
+      other : (n k : ℕ) → 1 ≤ n → n ≤ max_items → is_item_key k ≡ false → is_at (nat_cmp (item_key n)) k ≡ false
       other n k lo hi out = elim (is_at (nat_cmp (item_key n)) k) as (λ b. is_at (nat_cmp (item_key n)) k ≡ b → b ≡ false) [
         | true ↦ λ here. let e : item_key n ≡ k = (number_decides (item_key n) k).0 here in let yes : is_item_key k ≡ true = range_key k (omega (arith, e)) (omega (arith, e)) in sym yes ∙ out
         | false ↦ λ _. refl
@@ -163,7 +164,7 @@ module _ (bytes : ℕ → List ℕ) where
       placed_first k rest (Some x) low more = (low, more)
 
   -- nothing stands under other numbers
-  pub items_out : (es : Records) (n : ℕ) → (n < 1) ⊎ (65536 < n) → items_of (placings_on es) n ≡ None
+  pub items_out : (es : Records) (n : ℕ) → (n < 1) ⊎ (max_items < n) → items_of (placings_on es) n ≡ None
   items_out [] n out = ap (λ (ps : Placings). items_of ps n) placings_nil
   items_out (e ∷ es) n out =
       ap (λ (ps : Placings). items_of ps n) (placings_cons e es)
@@ -172,7 +173,7 @@ module _ (bytes : ℕ → List ℕ) where
         | false ↦ λ off. items_out es n out
       ] refl
     where
-      outside : (n k : ℕ) → (2 ^ 62 + 1 ≤ k) × (k ≤ 2 ^ 62 + 65536) → (n < 1) ⊎ (65536 < n) → is_at (nat_cmp n) (k - 2 ^ 62) ≡ false
+      outside : (n k : ℕ) → (2 ^ 62 + 1 ≤ k) × (k ≤ 2 ^ 62 + max_items) → (n < 1) ⊎ (max_items < n) → is_at (nat_cmp n) (k - 2 ^ 62) ≡ false
       outside n k range out = elim (is_at (nat_cmp n) (k - 2 ^ 62)) as (λ b. is_at (nat_cmp n) (k - 2 ^ 62) ≡ b → b ≡ false) [
         | true ↦ λ here. let e : n ≡ k - 2 ^ 62 = (number_decides n (k - 2 ^ 62)).0 here in
             elim out [ inl low ↦ absurd (omega (arith, range.0)) | inr high ↦ absurd (omega (arith, range.0, range.1)) ]

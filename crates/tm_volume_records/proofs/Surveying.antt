@@ -7,6 +7,7 @@ use Rattle.std.proofs.lemmas.Option.{slice_get_past}
 use Rattle.tm_records.specs.Records.{Records}
 use Rattle.tm_volume_records.specs.declared.positions.Position.{Position}
 use Rattle.tm_volume_records.specs.Loads.{row_in, row_of_record, position_at, position_of_row, position_or, IsOwn, KeepsOwn, ArePositionsBelow, IsWorst, NoneBetween}
+use Rattle.tm_base.specs.Limits.{max_items}
 
 module _ {X : Type 0} where
   get_before : (xs : List X) (x : X) (k : ℕ) → k < length xs → slice_get (xs ++ x ∷ []) k ≡ slice_get xs k
@@ -65,7 +66,7 @@ positions_more records n positions new position low old is many here others = re
       (cases_lt m n);
 }
 
-pub worst_none : (records : Records) (next : ℕ) → IsWorst records next 1 65537
+pub worst_none : (records : Records) (next : ℕ) → IsWorst records next 1 (max_items + 1)
 worst_none records next = record {
   least = omega arith;
   most = omega arith;
@@ -75,7 +76,7 @@ worst_none records next = record {
 }
 
 -- numbers that no item has are not bad
-pub worst_past : (records : Records) (next from n worst : ℕ) → from ≤ n → n ≤ 65537 → IsWorst records next from worst → NoneBetween records from n → IsWorst records next n worst
+pub worst_past : (records : Records) (next from n worst : ℕ) → from ≤ n → n ≤ max_items + 1 → IsWorst records next from worst → NoneBetween records from n → IsWorst records next n worst
 worst_past records next from n worst up few old none = record {
   least = old.least;
   most = old.most;
@@ -90,7 +91,7 @@ worst_past records next from n worst up few old none = record {
   high = λ le. old.high (omega (arith, le, up));
 }
 
-module _ (records : Records) (next n worst worst2 : ℕ) (few : n < 65537) (low : 1 ≤ n) (old : IsWorst records next n worst) where
+module _ (records : Records) (next n worst worst2 : ℕ) (few : n < max_items + 1) (low : 1 ≤ n) (old : IsWorst records next n worst) where
   good_more : KeepsOwn records next n → worst2 ≡ worst → IsWorst records next (n + 1) worst2
   good_more own same = subst (λ w. IsWorst records next (n + 1) w) (sym same) (record {
     least = old.least;

@@ -1,5 +1,5 @@
 -- Items as they are read: what their records say, each by itself and in its place.
-use Rattle.std.specs.Prelude.{◌≡◌, ℕ, ◌<◌, ◌≤◌, Bool, true, false, ◌&&◌, ◌==◌, not, is_some, Option, Some, None, IfSome, Result, Ok, Err, List, length}
+use Rattle.std.specs.Prelude.{◌+◌, ◌≡◌, ℕ, ◌<◌, ◌≤◌, Bool, true, false, ◌&&◌, ◌==◌, not, is_some, Option, Some, None, IfSome, Result, Ok, Err, List, length}
 use Rattle.std.specs.List.{All, slice_get}
 use Rattle.std.specs.Option.{option_map}
 use Rattle.tm_image.specs.Reads.{Entries, entries_of}
@@ -22,6 +22,7 @@ use Rattle.tm_tree.specs.declared.record.ItemRow.{ItemRow}
 use Rattle.tm_volume_records.specs.declared.positions.Position.{Position}
 use Rattle.tm_volume_records.specs.Records.{head_key, item_key, placings_of}
 use Rattle.tm_volume_records.specs.Rules.{Tag, HasData, HasStamp, IsDrawn, IsGoodKey}
+use Rattle.tm_base.specs.Limits.{max_items}
 
 -- ---- rows
 
@@ -85,10 +86,10 @@ NoneBetween records from n = (m : ℕ) → from ≤ m → m < n → at (item_key
 
 pub record IsWorst (records : Records) (next n worst : ℕ) : Type 0 where
   pub least : 1 ≤ worst
-  pub most : worst ≤ 65_537
+  pub most : worst ≤ max_items + 1
   pub below : (m : ℕ) → 1 ≤ m → m < n → m < worst → KeepsOwn records next m
   pub bad : worst < n → KeepsOwn records next worst → ⊥
-  pub high : n ≤ worst → worst ≡ 65_537
+  pub high : n ≤ worst → worst ≡ max_items + 1
 
 -- ---- the root
 
@@ -108,7 +109,7 @@ items_from records bytes = items_of (placings_of (entries_of bytes records))
 
 pub record IsFirstBad (records : Records) (next n : ℕ) : Type 0 where
   pub least : 1 ≤ n
-  pub most : n ≤ 65_536
+  pub most : n ≤ max_items
   pub own : (m : ℕ) → 1 ≤ m → m < n → KeepsOwn records next m
   pub place : (bytes : ℕ → List ℕ) (m : ℕ) → m < n → FollowsRules (items_from records bytes) m
   pub bad : (bytes : ℕ → List ℕ) → KeepsOwn records next n → FollowsRules (items_from records bytes) n → ⊥

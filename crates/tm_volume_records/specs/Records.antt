@@ -16,6 +16,7 @@ use Rattle.tm_tree.specs.declared.node.LeafRow.TheVariants as leaf
 use Rattle.tm_tree.specs.declared.record.ItemBody.{ItemBody}
 use Rattle.tm_tree.specs.declared.record.ItemBody.TheVariants as body
 use Rattle.tm_tree.specs.declared.record.ItemRow.{ItemRow}
+use Rattle.tm_base.specs.Limits.{max_items}
 
 -- the head: the name, the id and the capacity, and the fixed paths
 abbrev pub head_key : ℕ
@@ -25,16 +26,12 @@ head_key = 1
 abbrev pub journal_key : ℕ
 journal_key = 2
 
--- item numbers are from 1 to 65,536
-abbrev pub most_number : ℕ
-most_number = 65_536
-
--- the item of a number
+-- the item of a number, which is from 1 to the most items
 abbrev pub item_key : ℕ → ℕ
 item_key n = 2 ^ 62 + n
 
 abbrev pub is_item_key : ℕ → Bool
-is_item_key key = nat_le (2 ^ 62 + 1) key && nat_le key (2 ^ 62 + most_number)
+is_item_key key = nat_le (2 ^ 62 + 1) key && nat_le key (2 ^ 62 + max_items)
 
 -- the entry at a key
 abbrev pub entry_at : ℕ → Entries → Option Entry

@@ -13,8 +13,8 @@ use Rattle.tm_tree.specs.declared.record.ItemBody.{ItemBody}
 use Rattle.tm_tree.specs.declared.record.ItemBody.TheVariants as body
 use Rattle.tm_tree.specs.declared.record.ItemRow.{ItemRow}
 use Rattle.tm_tree.specs.declared.rows.Row.{Row}
-use Rattle.tm_tree.specs.Changes.{most_bytes}
-use Rattle.tm_volume_records.specs.Records.{head_key, journal_key, item_key, most_number, entry_at, placings_of}
+use Rattle.tm_volume_records.specs.Records.{head_key, journal_key, item_key, entry_at, placings_of}
+use Rattle.tm_base.specs.Limits.{max_items, max_events, max_file_bytes}
 
 -- the clean mark, the generation and the next number
 pub record Tag : Type 0 where
@@ -32,13 +32,13 @@ pub record IsTagged (tag : Tag) : Type 0 where
 
 -- the keys of a volume
 abbrev pub IsVolumeKey : ℕ → Type 0
-IsVolumeKey key = (key ≡ head_key) ⊎ (key ≡ journal_key) ⊎ ((n : ℕ) × (1 ≤ n) × (n ≤ most_number) × (key ≡ item_key n))
+IsVolumeKey key = (key ≡ head_key) ⊎ (key ≡ journal_key) ⊎ ((n : ℕ) × (1 ≤ n) × (n ≤ max_items) × (key ≡ item_key n))
 
--- a head with a capacity from 1 to 65,536, and fixed paths for its data
+-- a head with a capacity from 1 to the most events, and fixed paths for its data
 pub record IsHead (e : Entry) : Type 0 where
   pub head : VolumeHead
   pub meta : volume_of e.meta ≡ Some head
-  pub capacity : (1 ≤ head.capacity) × (head.capacity ≤ 65_536)
+  pub capacity : (1 ≤ head.capacity) × (head.capacity ≤ max_events)
   pub fixed : List Names
   pub bytes : paths_of e.bytes ≡ Some fixed
 
@@ -67,12 +67,12 @@ pub record HasJournal (entries : Entries) (tag : Tag) : Type 0 where
 -- a file has at most so many bytes, and nothing else has data
 abbrev pub HasData : ItemBody → ℕ → Type 0
 HasData (body.Folder attrs) size = size ≡ 0
-HasData (body.Leaf (leaf.File attrs stamp count)) size = size ≤ most_bytes
+HasData (body.Leaf (leaf.File attrs stamp count)) size = size ≤ max_file_bytes
 HasData (body.Leaf (leaf.Link attrs stamp target)) size = size ≡ 0
 
 -- no item has more bytes than a file may have
 abbrev pub AreShort : Records → Type 0
-AreShort records = (n : ℕ) → 1 ≤ n → n ≤ most_number → IfSome (at (item_key n) records) (λ r. r.length ≤ most_bytes)
+AreShort records = (n : ℕ) → 1 ≤ n → n ≤ max_items → IfSome (at (item_key n) records) (λ r. r.length ≤ max_file_bytes)
 
 -- the stamp of a file or link was drawn
 abbrev pub HasStamp : ℕ → ItemBody → Type 0
@@ -97,7 +97,7 @@ pub record IsGoodKey (entries : Entries) (tag : Tag) (key : ℕ) : Type 0 where
   pub known : IsSome (entry_at key entries) → IsVolumeKey key
   pub head : key ≡ head_key → HasHead entries
   pub journal : key ≡ journal_key → HasJournal entries tag
-  pub item : (n : ℕ) → 1 ≤ n → n ≤ most_number → key ≡ item_key n → HasItem entries tag.next n
+  pub item : (n : ℕ) → 1 ≤ n → n ≤ max_items → key ≡ item_key n → HasItem entries tag.next n
 
 -- every key keeps its rules
 abbrev pub IsGoodVolume : Entries → Tag → Type 0

@@ -7,6 +7,7 @@ ghost use Rattle.tm_nodes.specs.Paths.{paths_text, ArePaths};
 ghost use Rattle.tm_nodes.specs.Records.{paths_of};
 ghost use Rattle.tm_nodes.specs.Spelled.{IsSpelled, IsUnspelled};
 ghost use Rattle.tm_tree.specs.Contents.{is_fixed, with_fixed, without_fixed};
+ghost use Rattle.tm_base.specs.Limits.{max_fixed};
 
 use std::alloc::{AllocError, Global};
 use std::marker::Model;
@@ -92,7 +93,7 @@ impl FixedPaths {
     /// The paths with this one, which isn't the root; they are at most 256.
     pub fn with(&self, alloc: Global, path: &Path) -> Result<FixedPaths, AllocError>
         requires below { is_root path.now ≡ false }
-        requires few { (if is_fixed self.now path.now then length self.now else length self.now + 1) ≤ 256 }
+        requires few { (if is_fixed self.now path.now then length self.now else length self.now + 1) ≤ max_fixed }
         ensures { IfOk result (λ paths. paths ≡ with_fixed self.now path.now) }
     {
         // The names of a path come with the rules that they keep.

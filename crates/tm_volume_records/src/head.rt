@@ -11,17 +11,16 @@ ghost use Rattle.tm_world.specs.Outside.{disk};
 ghost use Rattle.tm_volume_records.specs.Loads.{IfBadAt, HeadIn, AreRows};
 ghost use Rattle.tm_volume_records.specs.Records.{head_key, journal_key, entry_at};
 ghost use Rattle.tm_volume_records.specs.Rules.{HasHead, HasJournal, IsDrawn};
+ghost use Rattle.tm_base.specs.Limits.{max_events};
 
 use crate::fixed::FixedPaths;
 use crate::record_keys::{HEAD_KEY, JOURNAL_KEY};
 use std::alloc::{AllocError, Global};
+use tm_base::limits::MAX_EVENTS;
 use tm_image::{Image, LoadError};
 use tm_nodes::{NodeError, VolumeHead, read_rows, read_volume};
 use tm_tree::Row;
 use tm_world::{Cause, Part, Side, World};
-
-/// The most rows that a journal may keep.
-const MOST_ROWS: u32 = 65_536;
 
 /// A record that breaks a rule.
 pub(crate) fn bad_record(key: u64) -> LoadError
@@ -75,7 +74,7 @@ fn read_data<W: World>(
 pub(crate) fn read_head(alloc: Global, image: &Image) -> Result<VolumeHead, LoadError>
     ensures no_fault { result ≢ Err LoadError.Fault }
     ensures head { IfOk result (λ head. HeadIn image.now.records head) }
-    ensures capacity { IfOk result (λ head. (1 ≤ head.capacity) × (head.capacity ≤ 65536)) }
+    ensures capacity { IfOk result (λ head. (1 ≤ head.capacity) × (head.capacity ≤ max_events)) }
     ensures bad { (bytes : ℕ → List ℕ) → IfBadAt result head_key (¬ HasHead (entries_of bytes image.now.records)) }
 {
     let Some(meta) = image.meta(HEAD_KEY) else {
@@ -83,7 +82,7 @@ pub(crate) fn read_head(alloc: Global, image: &Image) -> Result<VolumeHead, Load
     };
     match read_volume(alloc, meta) {
         Ok(head) => {
-            if head.capacity < 1 || head.capacity > MOST_ROWS {
+            if head.capacity < 1 || u64::from(head.capacity) > MAX_EVENTS {
                 return Err(bad_record(HEAD_KEY));
             }
             Ok(head)

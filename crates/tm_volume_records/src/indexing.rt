@@ -7,10 +7,12 @@ ghost use Rattle.tm_items.specs.Places.{at_name};
 ghost use Rattle.tm_items.specs.Placings.{Items};
 ghost use Rattle.tm_items.specs.Rules.{climbs, FollowsRules, IsSound};
 ghost use Rattle.tm_volume_records.specs.Loads.{is_folder_position, is_root_body, is_root_row, items_from, row_in, position_at, ArePositions, ArePositionsBelow, IsFirstBad, KeepsOwn};
+ghost use Rattle.tm_base.specs.Limits.{max_items, max_names};
 
 use crate::positions::{ABOVE_NUMBERS, Position, position_at, read_row, survey_items};
 use std::alloc::{AllocError, Global};
 use tm_base::Name;
+use tm_base::limits::MAX_NAMES;
 use tm_image::Image;
 use tm_index::Index;
 use tm_tree::{ItemBody, ItemRow};
@@ -45,12 +47,12 @@ fn is_folder(positions: &[Option<Position>], number: u64) -> bool
     }
 }
 
-/// Whether the walk over parents comes to number 1 within 64 steps.
+/// Whether the walk over parents comes to number 1 within as many steps as a path has names.
 fn climbs(positions: &[Option<Position>], number: u64) -> bool
-    ensures { (items : Items) → ArePositions items positions.now → result ≡ climbs 64 items number }
+    ensures { (items : Items) → ArePositions items positions.now → result ≡ climbs max_names items number }
 {
     let mut at = number;
-    for _step in 0..64u32 {
+    for _step in 0..MAX_NAMES {
         if at == 1 {
             return true;
         }
@@ -117,8 +119,8 @@ fn place(
     number: u64,
 ) -> Result<bool, AllocError>
     requires sound { IsSoundImage image.now }
-    requires number { (2 ≤ number) × (number ≤ 65536) }
-    requires positions { ArePositionsBelow image.now.records 65537 positions.now }
+    requires number { (2 ≤ number) × (number ≤ max_items) }
+    requires positions { ArePositionsBelow image.now.records (max_items + 1) positions.now }
     ensures kept { IfOk result (λ good. good ≡ true → (bytes : ℕ → List ℕ) → IsLoaded (items_from image.now.records bytes) number (numbers_in numbers.old)
         → IsLoaded (items_from image.now.records bytes) (number + 1) (numbers_in numbers.new)) }
     ensures broken { IfOk result (λ good. good ≡ false → (bytes : ℕ → List ℕ) → IsLoaded (items_from image.now.records bytes) number (numbers_in numbers.old)
@@ -142,7 +144,7 @@ fn place(
 /// The index of the items, or the least number that breaks a rule, by itself or in its place.
 pub(crate) fn load_items(alloc: Global, image: &Image, next: u64) -> Result<Index, ItemsError>
     ensures items { IfOk result (λ index. (bytes : ℕ → List ℕ) → IsSound (items_from image.now.records bytes) × IsIndex (items_from image.now.records bytes) (numbers_in index)) }
-    ensures own { OnOk result ((n : ℕ) → 1 ≤ n → n ≤ 65536 → KeepsOwn image.now.records next n) }
+    ensures own { OnOk result ((n : ℕ) → 1 ≤ n → n ≤ max_items → KeepsOwn image.now.records next n) }
     ensures bad { (n : ℕ) → result ≡ Err (ItemsError.Bad n) → IsFirstBad image.now.records next n }
 {
     // The total comes with the order of the records.

@@ -11,4 +11,4 @@ mod record_keys;
 
 pub use check::{Contents, check_records, first_from};
 pub use fixed::FixedPaths;
-pub use record_keys::{HEAD_KEY, ITEM_KEY, JOURNAL_KEY, MOST_NUMBER};
+pub use record_keys::{HEAD_KEY, ITEM_KEY, JOURNAL_KEY};

@@ -5,20 +5,19 @@ ghost use Rattle.tm_records.specs.Records.{at};
 ghost use Rattle.tm_volume_records.specs.Loads.{is_folder_body, row_in, position_of_row, position_at, KeepsOwn, ArePositionsBelow, IsWorst, NoneBetween};
 ghost use Rattle.tm_volume_records.specs.Records.{item_key};
 ghost use Rattle.tm_volume_records.specs.Rules.{HasData, HasStamp};
+ghost use Rattle.tm_base.specs.Limits.{max_items};
 
 use crate::check::first_from;
 use crate::record_keys::ITEM_KEY;
 use std::alloc::{AllocError, Global};
 use tm_base::Name;
+use tm_base::limits::{MAX_FILE_BYTES, MAX_ITEMS};
 use tm_image::Image;
 use tm_nodes::{NodeError, read_item};
 use tm_tree::{ItemBody, ItemRow, LeafRow};
 
-/// Above the most number of an item.
-pub(crate) const ABOVE_NUMBERS: u64 = 65_537;
-
-/// The most bytes of a file.
-const MOST_BYTES: u64 = 16_777_216;
+/// Above the greatest number of an item.
+pub(crate) const ABOVE_NUMBERS: u64 = MAX_ITEMS + 1;
 
 /// Where the item of a number stands, and whether it is a folder.
 #[derive(Drop)]
@@ -36,7 +35,7 @@ pub(crate) struct Position {
 pub(crate) struct Survey {
     /// The position of each number from 0 to that of the last item, none where no record reads as an item.
     pub(crate) positions: Vec<Option<Position>>,
-    /// The least number of a bad record, 65,537 where none is bad.
+    /// The least number of a bad record, that above the greatest where none is bad.
     pub(crate) worst: u64,
 }
 
@@ -46,7 +45,7 @@ pub(crate) fn read_row(
     image: &Image,
     number: u64,
 ) -> Result<Option<ItemRow>, AllocError>
-    requires { number ≤ 65536 }
+    requires { number ≤ max_items }
     ensures { IfOk result (λ row. row ≡ row_in image.now.records number) }
 {
     let key = ITEM_KEY + number;
@@ -74,7 +73,7 @@ fn is_own(next: u64, body: &ItemBody, length: u64) -> bool
     match body {
         ItemBody::Folder { .. } => length == 0,
         ItemBody::Leaf(LeafRow::File { stamp, .. }) => {
-            length <= MOST_BYTES && is_drawn(next, *stamp)
+            length <= MAX_FILE_BYTES && is_drawn(next, *stamp)
         }
         ItemBody::Leaf(LeafRow::Link { stamp, .. }) => length == 0 && is_drawn(next, *stamp),
     }
@@ -104,7 +103,7 @@ fn position_in(row: Option<ItemRow>) -> Option<Position>
 
 /// Whether the record of a number, whose row this is, keeps the rules by itself.
 fn keeps_own(image: &Image, next: u64, number: u64, row: &Option<ItemRow>) -> bool
-    requires number { number ≤ 65536 }
+    requires number { number ≤ max_items }
     requires row { row.now ≡ row_in image.now.records number }
     ensures { IsTrue result ↔ KeepsOwn image.now.records next number }
 {
@@ -125,9 +124,9 @@ fn worse(worst: u64, number: u64, good: bool) -> u64
 
 /// The least number from `from` on of which a record stands.
 fn next_item(image: &Image, from: u64) -> Option<u64>
-    requires { from ≤ 65537 }
-    ensures none { IfNone result (NoneBetween image.now.records from 65537) }
-    ensures some { IfSome result (λ number. (from ≤ number) × (number ≤ 65536) × NoneBetween image.now.records from number) }
+    requires { from ≤ max_items + 1 }
+    ensures none { IfNone result (NoneBetween image.now.records from (max_items + 1)) }
+    ensures some { IfSome result (λ number. (from ≤ number) × (number ≤ max_items) × NoneBetween image.now.records from number) }
 {
     match first_from(image, ITEM_KEY + from) {
         Some(key) => {
@@ -172,8 +171,8 @@ fn put_position(
 /// What the records of all items say, each by itself. It looks at the numbers that items have, and at
 /// no others, and reads each record once.
 pub(crate) fn survey_items(alloc: Global, image: &Image, next: u64) -> Result<Survey, AllocError>
-    ensures positions { IfOk result (λ s. ArePositionsBelow image.now.records 65537 s.positions.items) }
-    ensures worst { IfOk result (λ s. IsWorst image.now.records next 65537 s.worst) }
+    ensures positions { IfOk result (λ s. ArePositionsBelow image.now.records (max_items + 1) s.positions.items) }
+    ensures worst { IfOk result (λ s. IsWorst image.now.records next (max_items + 1) s.worst) }
 {
     let mut positions = Vec::new(alloc);
     let mut worst = ABOVE_NUMBERS;

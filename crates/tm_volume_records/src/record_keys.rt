@@ -6,8 +6,5 @@ pub const HEAD_KEY: u64 = 1;
 /// The key of the journal's rows.
 pub const JOURNAL_KEY: u64 = 2;
 
-/// The key of item `n` is this and `n`.
+/// The key of item `n`, from 1 (the root) to the most items, is this and `n`.
 pub const ITEM_KEY: u64 = 1 << 62;
-
-/// The greatest number of an item; the least is 1, the root's.
-pub const MOST_NUMBER: u64 = 65_536;

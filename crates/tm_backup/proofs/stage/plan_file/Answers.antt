@@ -8,13 +8,16 @@ use Rattle.tm_volume.specs.Seen.{tree_on}
 use Rattle.tm_copy.specs.Keeping.{kept_file}
 use Rattle.tm_backup.specs.Steps.{store_bytes}
 use Rattle.tm_backup.specs.Taking.{view_on}
-use Rattle.tm_backup.proofs.Planning.{file_of, kept_blocks, kept_plan, new_blocks, new_plan}
+use Rattle.tm_backup.proofs.Planning.{file_of, file_small, kept_blocks, kept_plan, new_blocks, new_plan}
 use Rattle.tm_backup.proofs.Staging.{stages_err}
 use Rattle.tm_backup.proofs.Stepping.{ran_none}
 use Rattle.tm_backup.proofs.stage.plan_file.Goals as goal
 
 pub stage_file-requires-clause-file : goal.stage_file-requires-clause-file
 stage_file-requires-clause-file g c = λ bytes. file_of c.args.volume.now c.args.place.now c.args.attrs c.args.stamp c.args.size bytes (c.requires.file bytes)
+
+pub stage_file-requires-clause-small : goal.stage_file-requires-clause-small
+stage_file-requires-clause-small g c = file_small c.args.volume.now c.args.place.now c.args.attrs c.args.stamp c.args.size c.items_keep_bounds.ensures.bounds c.requires.may.kept c.requires.file
 
 pub returns-in-Some-clause-ran : goal.returns-in-Some-clause-ran
 returns-in-Some-clause-ran g c = ran_none g.W.World.told c.args.volume.now c.args.store.now (g.W.World.log c.args.world.now)
@@ -63,4 +66,4 @@ returns-in_ok-blob-in-None-clause-planned g c = λ root files bytes suits.
     let none : kept_file s.nodes c.args.base c.args.stamp ≡ None = ap (λ (n : Nodes). kept_file n c.args.base c.args.stamp) (sym c.graph.ensures) ∙ sym c.in-None.ensures in
     let e = c.in_ok-blob-in-None.ensures in
     new_plan g.W.World.told s v (g.W.World.log c.args.world.now) c.args.place.now c.args.base root files bytes c.requires.may.graph tree suits (store_bytes (g.W.World.log c.stage_file.new.world)) c.args.attrs c.args.stamp c.args.size c.in_ok-blob-in-None.blob (c.requires.file bytes) none
-    e.length e.small e.many e.holds
+    e.length (file_small c.args.volume.now c.args.place.now c.args.attrs c.args.stamp c.args.size c.items_keep_bounds.ensures.bounds c.requires.may.kept c.requires.file) e.many e.holds

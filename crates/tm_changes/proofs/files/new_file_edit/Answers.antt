@@ -50,3 +50,6 @@ returns c =
       next_most = c.requires.next;
     })
     c.requires.passes
+
+pub unreachable-requires : goal.unreachable-requires
+unreachable-requires c = omega (arith, c.in_default.ensures.many, c.requires.fewer)

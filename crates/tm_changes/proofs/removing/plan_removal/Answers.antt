@@ -10,20 +10,20 @@ use Rattle.tm_changes.proofs.removing.plan_removal.Goals as goal
 pub returns-in_default : goal.returns-in_default
 returns-in_default c = λ bytes good. c.requires.tests bytes ∙ no_moment (ids_spent (volume_on c.args.volume.now bytes).contents 1) c.args.moment c.in_default.is
 
-pub returns-in-Ok : goal.returns-in-Ok
-returns-in-Ok c =
+pub returns : goal.returns
+returns c =
     let m = c.args.volume.now in
     let s = c.rules.ensures.shelved in
     let on = on_shelf_of m s in
     let p = c.args.path.now in
     let n = c.args.number in
     let moment = c.in-Some.moment in
-    let e = c.in-Ok.edit in
-    let is = c.in-Ok.ensures.removes in
-    let low = c.in-Ok.ensures.low in
+    let e = c.in_ok-removal.field-0 in
+    let is = c.in_ok-removal.ensures.removes in
+    let low = c.in_ok-removal.ensures.low in
     let drew = c.in-Some-next_after.ensures.some in
     let next : ℕ = m.tag.next + 1 in
-    let next_is : e.next ≡ next = c.in-Ok.ensures.next ∙ drew.0 in
+    let next_is : e.next ≡ next = c.in_ok-removal.ensures.next ∙ drew.0 in
     let least : m.tag.next ≤ next = omega arith in
     let most : next ≤ 2 ^ 62 = omega (arith, drew.0, drew.1) in
     record {

@@ -1,8 +1,9 @@
-use Rattle.std.proofs.Common.{◌≡◌, arith, sym, ap, subst, ◌∙◌, Option, List}
+use Rattle.std.proofs.Common.{◌+◌, ◌≡◌, arith, sym, ap, subst, ◌∙◌, Option, List}
 use Rattle.std.specs.Option.{option_map}
 use Rattle.tm_volume_records.specs.declared.positions.Position.{Position}
 use Rattle.tm_volume_records.specs.Loads.{ArePositionsBelow, IsWorst, position_of_row}
 use Rattle.tm_volume_records.proofs.Surveying.{positions_none, positions_past, positions_more, worst_none, worst_past, worst_more}
+use Rattle.tm_base.specs.Limits.{max_items}
 use Rattle.tm_volume_records.proofs.positions.survey_items.Goals as goal
 
 pub loop-step-init : goal.loop-step-init
@@ -33,21 +34,21 @@ loop-step-preserved c =
 pub returns-in_default-clause-positions : goal.returns-in_default-clause-positions
 returns-in_default-clause-positions c =
     let i = c.loop-step.invariant in
-    positions_past c.args.image.now.records c.loop-step.from 65537 c.loop-step.positions.items i.most i.positions c.in_default.ensures.none
+    positions_past c.args.image.now.records c.loop-step.from (max_items + 1) c.loop-step.positions.items i.most i.positions c.in_default.ensures.none
 
 pub returns-in_default-clause-worst : goal.returns-in_default-clause-worst
 returns-in_default-clause-worst c =
     let i = c.loop-step.invariant in
-    worst_past c.args.image.now.records c.args.next c.loop-step.from 65537 c.loop-step.worst i.most (omega arith) i.worst c.in_default.ensures.none
+    worst_past c.args.image.now.records c.args.next c.loop-step.from (max_items + 1) c.loop-step.worst i.most (omega arith) i.worst c.in_default.ensures.none
 
 pub returns-clause-positions : goal.returns-clause-positions
 returns-clause-positions c =
     let i = c.loop-step.invariant in
-    let all : c.loop-step.from ≡ 65537 = omega (arith, i.least, i.most, c.loop-step-test.false) in
+    let all : c.loop-step.from ≡ max_items + 1 = omega (arith, i.least, i.most, c.loop-step-test.false) in
     subst (λ n. ArePositionsBelow c.args.image.now.records n c.loop-step.positions.items) all i.positions
 
 pub returns-clause-worst : goal.returns-clause-worst
 returns-clause-worst c =
     let i = c.loop-step.invariant in
-    let all : c.loop-step.from ≡ 65537 = omega (arith, i.least, i.most, c.loop-step-test.false) in
+    let all : c.loop-step.from ≡ max_items + 1 = omega (arith, i.least, i.most, c.loop-step-test.false) in
     subst (λ n. IsWorst c.args.image.now.records c.args.next n c.loop-step.worst) all i.worst

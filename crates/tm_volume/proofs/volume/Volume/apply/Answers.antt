@@ -33,7 +33,7 @@ invariant_of-self-in-Ok-commit g c =
     let is = subst (λ (s : Seen). IsEdit s c.args.edit) (sym c.self.view_is) c.requires.edit in
     let n0 = numbers_in c.self.inside.numbers in
     shelf_after m n0 c.self.invariant e is c.commit.new.self c.keep.new.fixed (next_tag m e) (numbers_in c.enter.new.numbers) (numbers_in c.leave.new.numbers)
-    c.in-Ok-commit.ensures.side c.in-Ok-commit.ensures.records (c.in-Ok-commit.ensures.tag ∙ c.write_tag-tag.ensures) (next_tagged m n0 c.self.invariant e is) c.in-Ok.ensures.ok c.leave.ensures
+    c.total.ensures.sound.rising c.in-Ok-commit.ensures.side c.in-Ok-commit.ensures.records (c.in-Ok-commit.ensures.tag ∙ c.write_tag-tag.ensures) (next_tagged m n0 c.self.invariant e is) c.in-Ok.ensures.ok c.leave.ensures
 
 pub returns-in-Ok-commit-clause-any_moment : goal.returns-in-Ok-commit-clause-any_moment
 returns-in-Ok-commit-clause-any_moment g c told =
@@ -69,7 +69,7 @@ invariant_of-self-in-Err-Fault g c =
     let n0 = numbers_in c.self.inside.numbers in
     let faulted = c.in-Err-Fault.ensures.faulted (ap Err c.in-Err-Fault.field-0-is) in
     shelf_after m n0 c.self.invariant e is c.commit.new.self m.fixed m.tag (numbers_in c.enter.new.numbers) (numbers_in c.leave-in-Err-Fault.new.numbers)
-    c.commit.ensures.side faulted.0 (ap (λ r. r.tag) faulted.1 ∙ c.self.invariant.tag_is) c.self.invariant.tagged c.in-Ok.ensures.ok c.leave-in-Err-Fault.ensures
+    c.total.ensures.sound.rising c.commit.ensures.side faulted.0 (ap (λ r. r.tag) faulted.1 ∙ c.self.invariant.tag_is) c.self.invariant.tagged c.in-Ok.ensures.ok c.leave-in-Err-Fault.ensures
 
 pub returns-in-Err-Fault-clause-any_moment : goal.returns-in-Err-Fault-clause-any_moment
 returns-in-Err-Fault-clause-any_moment g c told =

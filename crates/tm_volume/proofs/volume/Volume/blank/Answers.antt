@@ -6,8 +6,8 @@ use Rattle.tm_world.proofs.Going.{Runs-none}
 use Rattle.tm_volume.proofs.Blanking.{IsMade, made_puts, made_fits, made_run, made_shelf, made_stands, made_stored}
 use Rattle.tm_volume.proofs.volume.Volume.blank.Goals as goal
 
-pub returns-then-blocks-lt-FEWEST_BLOCKS-clause-any_moment : goal.returns-then-blocks-lt-FEWEST_BLOCKS-clause-any_moment
-returns-then-blocks-lt-FEWEST_BLOCKS-clause-any_moment g c told = Runs-none _ _ _
+pub returns-then-blocks-lt-MIN_BLOCKS-clause-any_moment : goal.returns-then-blocks-lt-MIN_BLOCKS-clause-any_moment
+returns-then-blocks-lt-MIN_BLOCKS-clause-any_moment g c told = Runs-none _ _ _
 
 pub returns-in_err-head-clause-any_moment : goal.returns-in_err-head-clause-any_moment
 returns-in_err-head-clause-any_moment g c told = Runs-none _ _ _

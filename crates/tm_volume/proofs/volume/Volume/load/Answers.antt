@@ -89,5 +89,6 @@ invariant_of-result g c = record {
   tagged = c.read_tag-tag.ensures.tagged;
   head_is = c.in_ok-contents.ensures.head;
   sound = λ bytes. (c.in_ok-contents.ensures.items bytes).0;
+  lengths = c.in_ok-contents.ensures.short;
   index_is = λ bytes. (c.in_ok-contents.ensures.items bytes).1;
 }

@@ -1,4 +1,8 @@
-use Rattle.std.proofs.Common.{cond, Some, refl, sym, subst}
+use Rattle.std.proofs.Common.{◌≡◌, ◌+◌, length, cond, Some, Result, refl, sym, subst}
+use Rattle.std.specs.Result.{IfOk}
+use Rattle.tm_base.specs.declared.refused.LineFault.{LineFault}
+use Rattle.tm_image.specs.Room.{free_of}
+use Rattle.tm_world.specs.declared.bytes.Blob.{Blob}
 use Rattle.tm_index.specs.Folders.{numbers_in}
 use Rattle.tm_world.specs.Outside.{disk}
 use Rattle.tm_world.specs.Log.{now}
@@ -9,6 +13,7 @@ use Rattle.tm_volume.specs.Seen.{Seen, StandsOn, stored_on}
 use Rattle.tm_volume.proofs.Editing.{shelf_back}
 use Rattle.tm_volume.proofs.Staging.{stage_run, stage_stands}
 use Rattle.tm_volume.proofs.volume.Volume.stage.Goals as goal
+use Rattle.tm_volume.proofs.volume.Volume.stage.Goals.{in-Ok, in-Err-Fault, in-Err-Full, in-Err-Memory}
 
 pub invariant_of-self : goal.invariant_of-self
 invariant_of-self g c =
@@ -31,3 +36,13 @@ returns-clause-stands g c told =
     let l1 = g.W.World.log c.stage.new.world in
     let stands = subst (λ (s : Seen). StandsOn s (disk OfVolume (now l0))) (sym c.self.view_is) (c.requires.stands told) in
     stage_stands m (numbers_in c.self.inside.numbers) c.self.invariant c.stage.new.self l0 l1 c.stage.ensures.same stands (c.stage.ensures.stands told) (c.stage.ensures.data told)
+
+pub returns-clause-free : goal.returns-clause-free
+returns-clause-free g c =
+    let Fits : Result Blob LineFault → Type 0 = λ r. IfOk r (λ blob. free_of c.stage.new.self + length blob.blocks ≡ free_of c.args.self.now.image) in
+    elim c.match-stage.branch [
+      | in-Ok w ↦ subst Fits (sym w.result-is) (subst (λ (s : Seen). free_of c.stage.new.self + length w.in-Ok.blob.blocks ≡ free_of s.image) c.self.view_is w.in-Ok.ensures.free)
+      | in-Err-Fault w ↦ subst Fits (sym w.result-is) tt
+      | in-Err-Full w ↦ subst Fits (sym w.result-is) tt
+      | in-Err-Memory w ↦ subst Fits (sym w.result-is) tt
+    ]
