@@ -54,6 +54,8 @@ rows_none s line.LatestBackup c e = absurd (none-some c e)
 rows_none s line.MachineDirectory c e = absurd (none-some c e)
 rows_none s (line.StoreLs at) c e = absurd (none-some c e)
 rows_none s (line.StoreCat item) c e = absurd (none-some c e)
+rows_none s (line.StoreStat item) c e = absurd (none-some c e)
+rows_none s line.StoreDf c e = absurd (none-some c e)
 rows_none s _ c e = refl
 
 change_is : (s : State) (l : Line) (c : Change) → change_of l ≡ Some c → effect (change_tests s c) [] (changed s c) (kept (changed s c) ∷ []) s ≡ line_effect s l
@@ -78,19 +80,22 @@ pub did_default : (l : Line) (m : Seen) (start : Log)
     → ((x : _) → l ≡ line.At x → ⊥) → ((x : _) (y : _) (z : _) → l ≡ line.NewVolume x y z → ⊥) → ((x : _) → l ≡ line.NewStore x → ⊥)
     → ((x : _) → l ≡ line.Ls x → ⊥) → ((x : _) → l ≡ line.Cat x → ⊥) → (l ≡ line.StartBackupBlock → ⊥)
     → (l ≡ line.ListBackups → ⊥) → (l ≡ line.LatestBackup → ⊥) → (l ≡ line.MachineDirectory → ⊥) → ((x : _) → l ≡ line.StoreLs x → ⊥) → ((x : _) → l ≡ line.StoreCat x → ⊥)
+    → ((x : _) → l ≡ line.StoreStat x → ⊥) → (l ≡ line.StoreDf → ⊥)
     → Standing m (now start) → Did (MayDoChangeless (state_on m (now start)) l) m m start start (Err (RefusedFor NotBuilt))
-did_default (line.At x) m start a b c d e f g h i j k standing = absurd (a x refl)
-did_default (line.NewVolume x y z) m start a b c d e f g h i j k standing = absurd (b x y z refl)
-did_default (line.NewStore x) m start a b c d e f g h i j k standing = absurd (c x refl)
-did_default (line.Ls x) m start a b c d e f g h i j k standing = absurd (d x refl)
-did_default (line.Cat x) m start a b c d e f g h i j k standing = absurd (e x refl)
-did_default line.StartBackupBlock m start a b c d e f g h i j k standing = absurd (f refl)
-did_default line.ListBackups m start a b c d e f g h i j k standing = absurd (g refl)
-did_default line.LatestBackup m start a b c d e f g h i j k standing = absurd (h refl)
-did_default line.MachineDirectory m start a b c d e f g h i j k standing = absurd (i refl)
-did_default (line.StoreLs x) m start a b c d e f g h i j k standing = absurd (j x refl)
-did_default (line.StoreCat x) m start a b c d e f g h i j k standing = absurd (k x refl)
-did_default l m start a b c d e f g h i j k standing = record {
+did_default (line.At x) m start a b c d e f g h i j k n o standing = absurd (a x refl)
+did_default (line.NewVolume x y z) m start a b c d e f g h i j k n o standing = absurd (b x y z refl)
+did_default (line.NewStore x) m start a b c d e f g h i j k n o standing = absurd (c x refl)
+did_default (line.Ls x) m start a b c d e f g h i j k n o standing = absurd (d x refl)
+did_default (line.Cat x) m start a b c d e f g h i j k n o standing = absurd (e x refl)
+did_default line.StartBackupBlock m start a b c d e f g h i j k n o standing = absurd (f refl)
+did_default line.ListBackups m start a b c d e f g h i j k n o standing = absurd (g refl)
+did_default line.LatestBackup m start a b c d e f g h i j k n o standing = absurd (h refl)
+did_default line.MachineDirectory m start a b c d e f g h i j k n o standing = absurd (i refl)
+did_default (line.StoreLs x) m start a b c d e f g h i j k n o standing = absurd (j x refl)
+did_default (line.StoreCat x) m start a b c d e f g h i j k n o standing = absurd (k x refl)
+did_default (line.StoreStat x) m start a b c d e f g h i j k n o standing = absurd (n x refl)
+did_default line.StoreDf m start a b c d e f g h i j k n o standing = absurd (o refl)
+did_default l m start a b c d e f g h i j k n o standing = record {
   effect = changeless_effect (state_on m (now start)) l;
   may = refl;
   does = record { replies = (refl, refl); standing = standing; moments = Passes-none start _ };

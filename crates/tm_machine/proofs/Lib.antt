@@ -16,3 +16,4 @@ pub mod ListingLemmas
 pub mod Allowing
 pub mod PlainLemmas
 pub mod Exits
+pub mod Measuring

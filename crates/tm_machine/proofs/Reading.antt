@@ -72,7 +72,7 @@ content_missing t p why h =
       | inr is ↦ rw (ap way_of (h ∙ ap (λ (r : Refused). Err r) is), is) refl
     ]
 
-item_there : (t : Tree) (p : Names) (e : Item) → walk t p ≡ Ok e → first_refused (item_tests t p) ≡ None
+pub item_there : (t : Tree) (p : Names) (e : Item) → walk t p ≡ Ok e → first_refused (item_tests t p) ≡ None
 item_there t p (Folder a) h = rw (ap way_of h) refl
 item_there t p (File a s b) h = rw (ap way_of h) refl
 item_there t p (Link a s b) h = rw (ap way_of h) refl

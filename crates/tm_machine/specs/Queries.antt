@@ -4,6 +4,8 @@ use Rattle.std.specs.List.{filter_map}
 use Rattle.std.specs.Option.{option_map, option_map_or}
 use Rattle.tm_base.specs.Paths.{Names}
 use Rattle.tm_reply.specs.declared.row.Attributes.{Attributes}
+use Rattle.tm_reply.specs.declared.row.Kind.{Kind}
+use Rattle.tm_reply.specs.declared.row.Kind.TheVariants as kind
 use Rattle.tm_reply.specs.declared.row.ListedName.{ListedName}
 use Rattle.tm_reply.specs.declared.row.ListedName.TheVariants as called
 use Rattle.tm_reply.specs.declared.row.ReplyRow.{ReplyRow}
@@ -17,10 +19,16 @@ use Rattle.tm_text.specs.declared.place.ItemAt.{ItemAt}
 use Rattle.tm_tree.specs.declared.attrs.Attrs.{Attrs}
 use Rattle.tm_tree.specs.declared.item.Item.{Item}
 use Rattle.tm_tree.specs.declared.item.Item.TheVariants.{Folder, File, Link}
+use Rattle.tm_tree.specs.declared.item.Labelled.{Labelled}
 use Rattle.tm_tree.specs.declared.node.LeafRow.{LeafRow}
 use Rattle.tm_tree.specs.declared.node.LeafRow.TheVariants as leaf
 use Rattle.tm_graph.specs.Nodes.{Nodes, node, entries_of as entries_in}
+use Rattle.tm_identity.specs.Identities.{links}
+use Rattle.tm_identity.specs.Sums.{stored_bytes}
 use Rattle.tm_store_records.specs.declared.snapshot.Snapshot.{Snapshot as HeldSnapshot}
+use Rattle.tm_store.specs.declared.finding.Kind.{Kind as NodeKind}
+use Rattle.tm_store.specs.declared.finding.Kind.TheVariants as node_kind
+use Rattle.tm_store_records.specs.Sizes.{free_blocks, node_count, trees_in}
 use Rattle.tm_store_records.specs.States.{item_on}
 use Rattle.tm_tree.specs.declared.node.Child.{Child}
 use Rattle.tm_tree.specs.declared.node.NodeBody.{NodeBody}
@@ -28,12 +36,12 @@ use Rattle.tm_tree.specs.declared.node.NodeBody.TheVariants as node_body
 use Rattle.tm_tree.specs.declared.node.NodeRow.{NodeRow}
 use Rattle.tm_tree.specs.declared.record.ItemBody.{ItemBody}
 use Rattle.tm_tree.specs.declared.record.ItemBody.TheVariants as body
-use Rattle.tm_tree.specs.Copies.{bare}
+use Rattle.tm_tree.specs.Copies.{LabelledTree, bare}
 use Rattle.tm_tree.specs.Items.{attrs_of, is_folder}
 use Rattle.tm_tree.specs.Listings.{entries_of}
 use Rattle.tm_tree.specs.Lookups.{snapshot_at, snapshot_under}
 use Rattle.tm_tree.specs.States.{VolumeState, StoreState, Snapshot, latest}
-use Rattle.tm_tree.specs.Trees.{Tree, item_at}
+use Rattle.tm_tree.specs.Trees.{Tree, at, item_at}
 use Rattle.tm_tree.specs.Views.{view}
 
 -- ---- an item and what it holds
@@ -182,6 +190,35 @@ store_rows store place.Top = row.Machine store.machine ∷ []
 store_rows store (place.Machine machine) = machine_rows store
 store_rows store (place.Snapshot at) = option_map_or (λ s. row.Volume s.volume s.id ∷ []) (named_snapshot store at) []
 store_rows store (place.Item item) = list_rows (stored_tree (holding_snapshot store item)) item.path
+
+-- ---- in numbers
+
+abbrev pub kind_of : Item → Kind
+kind_of (Folder a) = kind.Folder
+kind_of (File a stamp bytes) = kind.File
+kind_of (Link a stamp target) = kind.Link
+
+-- a node's kind, as a reply names it
+abbrev pub reply_kind : NodeKind → Kind
+reply_kind node_kind.Folder = kind.Folder
+reply_kind node_kind.File = kind.File
+reply_kind node_kind.Link = kind.Link
+
+-- what is stored in a snapshot, with its labels; nothing where there is none
+abbrev pub labelled_tree : Option Snapshot → LabelledTree
+labelled_tree None = []
+labelled_tree (Some s) = s.tree
+
+-- the line of an item that stands at p of one of these trees: its kind, its label and the links of its identity
+abbrev pub stat_row : List LabelledTree → Names → Labelled → ReplyRow
+stat_row trees p l = row.Stat (kind_of l.item) l.label (links trees l.label p)
+
+abbrev pub stat_rows : StoreState → ItemAt → List ReplyRow
+stat_rows store item = option_map_or (λ l. stat_row (trees_in store) item.path l ∷ []) (at (labelled_tree (holding_snapshot store item)) item.path) []
+
+-- the line of a store on an image of so many blocks: its free blocks, its identities, their bytes and its snapshots
+abbrev pub df_rows : ℕ → StoreState → List ReplyRow
+df_rows blocks store = row.Df blocks (free_blocks blocks store) (node_count store) (stored_bytes (trees_in store)) (length store.snapshots) ∷ []
 
 -- ---- a backup
 

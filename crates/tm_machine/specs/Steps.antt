@@ -28,7 +28,7 @@ use Rattle.tm_store_records.specs.Sizes.{table_blocks, free_blocks, node_count}
 use Rattle.tm_store_records.specs.States.{StoredStore}
 use Rattle.tm_backup.specs.Walk.{staging}
 use Rattle.tm_machine.specs.States.{State, store_in}
-use Rattle.tm_machine.specs.Queries.{list_rows, content_rows, snapshot_paths, latest_path, store_rows, named_snapshot, holding_snapshot, stored_tree, walked}
+use Rattle.tm_machine.specs.Queries.{list_rows, content_rows, snapshot_paths, latest_path, store_rows, named_snapshot, holding_snapshot, stored_tree, stat_rows, df_rows, walked}
 use Rattle.tm_machine.specs.Changing.{change_of}
 
 -- ---- when a line is refused: its tests by rising number of the refusal
@@ -143,6 +143,8 @@ changeless_tests s line.LatestBackup = on_store (store_in s.store) (λ store. sn
 changeless_tests s line.MachineDirectory = on_store (store_in s.store) (λ store. [])
 changeless_tests s (line.StoreLs at) = on_store (store_in s.store) (λ store. place_tests store at)
 changeless_tests s (line.StoreCat item) = on_store (store_in s.store) (λ store. stored_tests content_tests (holding_snapshot store item) item.path)
+changeless_tests s (line.StoreStat item) = on_store (store_in s.store) (λ store. stored_tests item_tests (holding_snapshot store item) item.path)
+changeless_tests s line.StoreDf = on_store (store_in s.store) (λ store. [])
 changeless_tests s _ = not_built
 
 -- a line that changes the contents of the volume
@@ -175,6 +177,8 @@ rows s line.LatestBackup = option_map_or latest_path (store_in s.store) []
 rows s line.MachineDirectory = option_map_or (λ store. row.MachineDirectory store.machine ∷ []) (store_in s.store) []
 rows s (line.StoreLs at) = option_map_or (λ store. store_rows store at) (store_in s.store) []
 rows s (line.StoreCat item) = option_map_or (λ store. content_rows (stored_tree (holding_snapshot store item)) item.path) (store_in s.store) []
+rows s (line.StoreStat item) = option_map_or (λ store. stat_rows store item) (store_in s.store) []
+rows s line.StoreDf = option_map_or (df_rows s.store_blocks) (store_in s.store) []
 rows s _ = []
 
 -- ---- what a line does that is not refused

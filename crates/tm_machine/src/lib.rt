@@ -10,6 +10,7 @@ mod changing;
 mod formatting;
 mod laws;
 mod listing;
+mod measures;
 mod opening;
 mod session;
 mod store;

@@ -217,6 +217,8 @@ impl Session {
             Line::MachineDirectory => self.machine_directory(),
             Line::StoreLs(place) => self.store_ls(place),
             Line::StoreCat(item) => self.store_cat(world, item),
+            Line::StoreStat(item) => self.store_stat(item),
+            Line::StoreDf => self.store_df(),
             _ => Err(LineFault::Refused(Refused::NotBuilt)),
         }
     }

@@ -28,8 +28,8 @@ use tm_text::{ItemAt, StorePath, Which};
 use tm_tree::{LeafRow, NodeId, NodeRow};
 use tm_world::World;
 
-// The date that a store path names; none for the latest.
-fn date_of(at: &Which) -> Option<Moment>
+/// The date that a store path names; none for the latest.
+pub(crate) fn date_of(at: &Which) -> Option<Moment>
     ensures { result ≡ date_of at.now }
 {
     match at {

@@ -2,12 +2,13 @@ use Rattle.std.proofs.Common.{◌∷◌, [], refl}
 use Rattle.std.specs.Option.{option_map_or}
 use Rattle.tm_reply.specs.declared.row.ReplyRow.TheVariants as row
 use Rattle.tm_text.specs.declared.line.Line.TheVariants as line
+use Rattle.tm_tree.specs.Changes.{item_tests}
 use Rattle.tm_tree.specs.States.{latest}
 use Rattle.tm_world.specs.Log.{now}
-use Rattle.tm_machine.specs.Queries.{latest_path, snapshot_paths, store_rows}
+use Rattle.tm_machine.specs.Queries.{df_rows, holding_snapshot, latest_path, snapshot_paths, stat_rows, store_rows}
 use Rattle.tm_machine.specs.Session.{state_on}
 use Rattle.tm_machine.specs.States.{store_in}
-use Rattle.tm_machine.specs.Steps.{on_store, place_tests, snapshot_tests}
+use Rattle.tm_machine.specs.Steps.{on_store, place_tests, snapshot_tests, stored_tests}
 use Rattle.tm_machine.proofs.QueryLines.{as_plain, query_does, query_open, query_standing, query_fault, clock_does, ls_fault, reading_does}
 use Rattle.tm_machine.proofs.Allowing.{did_default}
 use Rattle.tm_machine.proofs.Resting.{alike_self, rest_leaves}
@@ -103,8 +104,33 @@ returns-in-StoreCat-clause-does g c told =
     c.args.self.now (g.W.World.blocks c.args.world.now) (now start) c.requires.open (c.requires.standing told))
     (c.store_cat.ensures.answer told) (c.store_cat.ensures.steps told) (c.requires.standing told))
 
+pub returns-in-StoreStat-clause-does : goal.returns-in-StoreStat-clause-does
+returns-in-StoreStat-clause-does g c told =
+    let start = g.W.World.log c.args.world.now in
+    as_plain c.args.line.now (line.StoreStat c.in-StoreStat.item) c.args.self.now c.args.self.now start start c.store_stat.result refl c.in-StoreStat.is
+    (query_does _ _ c.args.self.now c.args.self.now _ start c.store_stat.result (c.store_stat.ensures (now start)) (alike_self c.args.self.now) (c.requires.standing told))
+
+pub returns-in-StoreStat-clause-fault : goal.returns-in-StoreStat-clause-fault
+returns-in-StoreStat-clause-fault g c side e =
+    let o = now (g.W.World.log c.args.world.now) in
+    let z = store_in (state_on c.args.self.now o).store in
+    let item = c.in-StoreStat.item in
+    query_fault (on_store z (λ store. stored_tests item_tests (holding_snapshot store item) item.path)) (option_map_or (λ store. stat_rows store item) z []) c.store_stat.result side (c.store_stat.ensures o) e
+
+pub returns-in-StoreDf-clause-does : goal.returns-in-StoreDf-clause-does
+returns-in-StoreDf-clause-does g c told =
+    let start = g.W.World.log c.args.world.now in
+    as_plain c.args.line.now line.StoreDf c.args.self.now c.args.self.now start start c.store_df.result refl c.in-StoreDf.is
+    (query_does _ _ c.args.self.now c.args.self.now _ start c.store_df.result (c.store_df.ensures (now start)) (alike_self c.args.self.now) (c.requires.standing told))
+
+pub returns-in-StoreDf-clause-fault : goal.returns-in-StoreDf-clause-fault
+returns-in-StoreDf-clause-fault g c side e =
+    let o = now (g.W.World.log c.args.world.now) in
+    let z = store_in (state_on c.args.self.now o).store in
+    query_fault (on_store z (λ store. [])) (option_map_or (df_rows c.args.self.now.store_blocks) z []) c.store_df.result side (c.store_df.ensures o) e
+
 pub returns-in_default-clause-does : goal.returns-in_default-clause-does
 returns-in_default-clause-does g c told =
     let n = c.in_default in
     did_default c.args.line.now c.args.self.now (g.W.World.log c.args.world.now) n.not-At n.not-NewVolume n.not-NewStore n.not-Ls n.not-Cat n.not-StartBackupBlock n.not-ListBackups n.not-LatestBackup
-    n.not-MachineDirectory n.not-StoreLs n.not-StoreCat (c.requires.standing told)
+    n.not-MachineDirectory n.not-StoreLs n.not-StoreCat n.not-StoreStat n.not-StoreDf (c.requires.standing told)
