@@ -1,7 +1,7 @@
 //! What a command names.
 use thiserror::Error;
 
-/// What a command names (`docs/DEFINITIONS.md`, "A run").
+/// What a command names (`docs/DEFINITIONS.md`, "Runs").
 #[derive(Clone, Copy, Debug, PartialEq, Eq)]
 pub struct Command<'a> {
     /// The path of the image of the volume.

@@ -1,5 +1,5 @@
 //! The command of the program: which words after the program's name are it, and what they name
-//! (`docs/DEFINITIONS.md`, "A run").
+//! (`docs/DEFINITIONS.md`, "Runs").
 #![tactic(auto)]
 
 mod command;

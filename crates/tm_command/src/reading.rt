@@ -98,7 +98,7 @@ fn command_in<'a>(matches: &ArgMatches<'a>) -> Result<Command<'a>, WordsError>
     })
 }
 
-/// What the words after the program's name ask for (`docs/DEFINITIONS.md`, "A run"); Usage exactly
+/// What the words after the program's name ask for (`docs/DEFINITIONS.md`, "Runs"); Usage exactly
 /// where they are not the command. Errors: Usage, Memory.
 pub fn read_words<'a>(alloc: Global, words: &'a [String]) -> Result<Command<'a>, WordsError>
     ensures command { IfOk result (λ c. IsCommand (texts words.entry.now) c.volume.now c.store.now c.script.now c.create) }
