@@ -17,8 +17,8 @@ use Rattle.tm_world.specs.Torn.{as_read}
 use Rattle.tm_world.specs.declared.cause.Cause.{Cause}
 use Rattle.tm_run.specs.declared.status.Status.{Status}
 use Rattle.tm_run.specs.declared.status.Status.TheVariants as status
-use Rattle.tm_run.specs.Command.{IsCommand, IsSomeCommand}
-use Rattle.tm_run.proofs.CommandLemmas.{one_command}
+use Rattle.tm_command.specs.Command.{IsCommand, IsSomeCommand}
+use Rattle.tm_command.proofs.CommandLemmas.{one_command}
 use Rattle.tm_run.proofs.PairLemmas.{image_small, store_small}
 use Rattle.tm_run.specs.Outcomes.{IsStart, Outcome, Ran, usage, too_long, bad, runs, bad_volume, bad_store, replies, done_status, bad_line, bad_image_line}
 use Rattle.tm_run.specs.Pairs.{AreSmall, found}

@@ -11,7 +11,7 @@ use Rattle.tm_run.specs.declared.status.Status.{Status}
 use Rattle.tm_run.specs.declared.status.Status.TheVariants as status
 use Rattle.tm_run.specs.declared.top.ScriptEnd.{ScriptEnd}
 use Rattle.tm_run.specs.declared.top.ScriptEnd.TheVariants.{TooLong, BadLine}
-use Rattle.tm_run.specs.Command.{IsCommand}
+use Rattle.tm_command.specs.Command.{IsCommand}
 use Rattle.tm_run.specs.Scripts.{IsReading, StandsWith}
 use Rattle.tm_run.specs.Outcomes.{FitsStart, IsStart, OneStart, Outcome, OneOutcome, Ran, StartsRun, too_long, bad, bad_store, bad_volume, done_status, replies, runs, bad_line, too_long_line}
 use Rattle.tm_run.specs.Ends.{IsBefore, IsDone, NotCutShort, SaysAll, SaysPrefix, Speaks, GaveOutcome, GaveRan}
@@ -19,7 +19,7 @@ use Rattle.tm_run.specs.Pairs.{AreSmall, found, image_at}
 use Rattle.tm_run.specs.Claims.{KeepsBoth, LeavesEnd, NamesNoLines, PassesPlain, ReadsFit, RunsOver, StaysElsewhere, StaysFit}
 use Rattle.tm_run.specs.Moments.{IsMoment, RanOver, Stage, going_on, untouched}
 use Rattle.tm_run.specs.Places.{ElsewhereSame, FindsPair, KeepsImage, LeavesAt}
-use Rattle.tm_run.specs.Command.{IsSomeCommand}
+use Rattle.tm_command.specs.Command.{IsSomeCommand}
 use Rattle.tm_world.specs.Log.{Log, now, Passes}
 use Rattle.tm_world.proofs.Going.{Passes-now, Passes-then, Passes-weaker}
 use Rattle.tm_volume.specs.Answers.{IsSpent}
@@ -31,7 +31,7 @@ use Rattle.tm_machine.specs.Histories.{EffectsEnd, HeldFits, History, HistoryWhe
 use Rattle.tm_machine.specs.Runs.{any_refused, state_after}
 use Rattle.tm_machine.specs.States.{Stored, kept, opened}
 use Rattle.tm_machine.specs.Stops.{CanOpen, PairReads}
-use Rattle.tm_run.proofs.CommandLemmas.{one_command}
+use Rattle.tm_command.proofs.CommandLemmas.{one_command}
 use Rattle.tm_run.proofs.FindingLemmas.{found_as_read, keeps_same}
 use Rattle.tm_run.proofs.PathLemmas.{history_ends}
 use Rattle.tm_run.proofs.ScriptLemmas.{same_reads}
