@@ -12,6 +12,7 @@ use clap::{ArgMatches, Error};
 use std::alloc::Global;
 use tm_base::limits::MAX_BLOCKS;
 
+// Why clap gave no parse.
 fn words_error(error: &Error) -> WordsError
     ensures { (result ≡ WordsError.Memory) ↔ (kind_of error.now ≡ ErrorKind.OutOfMemory) }
 {
@@ -21,7 +22,7 @@ fn words_error(error: &Error) -> WordsError
     }
 }
 
-// What clap finds in the words.
+// What clap finds in the words; Usage exactly where it finds a fault.
 fn parse<'a>(alloc: Global, words: &'a [String]) -> Result<ArgMatches<'a>, WordsError>
     ensures faultless { IfOk result (λ _. IsFaultless (texts words.entry.now)) }
     ensures matches { IfOk result (λ m. rows_of (found_of m) ≡ matched (texts words.entry.now)) }
