@@ -138,7 +138,7 @@ module _ (one : OneStart) (words : List (List ℕ)) (outside : Outside) (lines :
       → (others : List Line) (w y : Image) (also : IsStart words outside others w y) → P others w y also.volume also.store also.create
   start_tells P holds others w y also =
       let same = one words outside lines others v w y z start also in
-      let paths = one_command words start.volume start.store start.path also.volume also.store also.path start.create also.create start.command also.command in
+      let paths = one_command words start.volume start.store start.path start.create also.volume also.store also.path also.create start.command also.command in
       subst (λ (c : Option ℕ). P others w y also.volume also.store c) paths.3
       (subst (λ (q : List ℕ). P others w y also.volume q start.create) paths.1
       (subst (λ (p : List ℕ). P others w y p start.store start.create) paths.0
@@ -150,7 +150,7 @@ module _ (one : OneStart) (words : List (List ℕ)) (outside : Outside) (lines :
 pub command_tells : (words : List (List ℕ)) (v s p : List ℕ) (create : Option ℕ) → IsCommand words v s p create → (P : List ℕ → List ℕ → Option ℕ → Type 0) → P v s create
     → (w t q : List ℕ) (make : Option ℕ) → IsCommand words w t q make → P w t make
 command_tells words v s p create command P holds w t q make also =
-    let paths = one_command words v s p w t q create make command also in
+    let paths = one_command words v s p create w t q make command also in
     subst (λ (c : Option ℕ). P w t c) paths.3 (subst (λ (y : List ℕ). P w y create) paths.1 (subst (λ (x : List ℕ). P x s create) paths.0 holds))
 
 -- ---- no lines
