@@ -1,0 +1,4 @@
+pub mod CoverLemmas
+mod ById
+mod ByPath
+mod Keeping

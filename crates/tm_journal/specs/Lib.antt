@@ -1,0 +1,4 @@
+pub mod Rows
+pub mod Cover
+pub mod Journals
+pub mod Kept

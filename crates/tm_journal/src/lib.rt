@@ -1,0 +1,15 @@
+//! The event journal of a volume: which folders were touched since when (`docs/DEFINITIONS.md`,
+//! "The journal").
+#![tactic(auto)]
+
+mod journal;
+mod kept;
+mod laws;
+mod since;
+
+pub use journal::Journal;
+pub use laws::{drop_covers_all, touch_stays_covered, touches_stay_covered};
+pub use since::Since;
+
+#[cfg(test)]
+mod tests;
