@@ -26,7 +26,7 @@ less_is a b e = (Decides-ltb a b).0 e
 not_less : (a b : ℕ) → b ≤ a → nat_lt a b ≡ false
 not_less a b l = by_test (nat_lt a b) (λ e. let m = less_is a b e in absurd (omega (arith, m))) (λ e. e)
 
-less_not : (a b : ℕ) → nat_lt a b ≡ false → b ≤ a
+pub less_not : (a b : ℕ) → nat_lt a b ≡ false → b ≤ a
 less_not a b e = ⊎_elim (λ (l : b ≤ a). l) (λ (l : a < b). false_true (sym e ∙ is_less a b l)) (cases a b)
   where
     cases : (a b : ℕ) → (b ≤ a) ⊎ (a < b)

@@ -2,3 +2,4 @@ pub mod CoverLemmas
 mod ById
 mod ByPath
 mod Keeping
+mod KeepableLemmas

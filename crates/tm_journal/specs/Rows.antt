@@ -1,5 +1,5 @@
 -- The rows of a journal by rising id, and what touches make of them.
-use Rattle.std.specs.Prelude.{◌≡◌, ℕ, ◌+◌, ◌%◌, ◌<◌, ◌≤◌, ◌⊎◌, Bool, not, ◌&&◌, ◌||◌, if◌then◌else◌, ◌==◌, nat_lt, List, [], ◌∷◌, ◌++◌, filter, length, map, All}
+use Rattle.std.specs.Prelude.{ℕ, ◌+◌, ◌%◌, Bool, not, ◌&&◌, ◌||◌, if◌then◌else◌, ◌==◌, nat_lt, List, [], ◌∷◌, ◌++◌, filter, length, map}
 use Rattle.std.specs.Ordering.{nat_cmp}
 use Rattle.std.specs.List.Sorted.{IsStrictlySortedBy}
 use Rattle.tm_base.specs.Paths.{same_path, is_prefix}
@@ -44,15 +44,3 @@ add_touches capacity next rows (touch ∷ touches) = add_touches capacity (next 
 -- by rising id
 abbrev pub AreRising : List Row → Type 0
 AreRising rows = IsStrictlySortedBy nat_cmp (map (λ row. row.id) rows)
-
--- 0, 1, 3 or 5
-abbrev pub AreFlags : ℕ → Type 0
-AreFlags flags = (flags ≡ 0) ⊎ (flags ≡ 1) ⊎ (flags ≡ 3) ⊎ (flags ≡ 5)
-
--- rows that an image may keep, of a volume whose next id is `next`
-pub record AreKeepable (capacity next : ℕ) (rows : List Row) : Type 0 where
-  pub rising : AreRising rows
-  pub few : length rows ≤ capacity
-  pub low : All (λ row. 1 ≤ row.id) rows
-  pub below : All (λ row. row.id < next) rows
-  pub flags : All (λ row. AreFlags row.flags) rows

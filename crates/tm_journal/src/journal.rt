@@ -152,6 +152,13 @@ impl Journal {
         self.rows.clear();
     }
 
+    /// The generation, which a mark must have for rows to be told. It takes no memory.
+    pub fn generation(&self) -> u64
+        ensures { result ≡ self.now.generation }
+    {
+        self.generation
+    }
+
     /// The UUID of the journal: the volume's id, exclusive-or the generation. It takes no memory.
     pub fn uuid(&self) -> Uuid
         ensures { result ≡ to_be_bytes w128 (bit_xor self.now.id self.now.generation) }

@@ -8,7 +8,10 @@ mod laws;
 mod since;
 
 pub use journal::Journal;
-pub use laws::{drop_covers_all, touch_stays_covered, touches_stay_covered};
+pub use laws::{
+    drop_covers_all, drop_stays_keepable, later_stays_keepable, touch_stays_covered,
+    touches_stay_covered, touches_stay_keepable,
+};
 pub use since::Since;
 
 #[cfg(test)]
