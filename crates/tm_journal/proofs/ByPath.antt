@@ -1,8 +1,8 @@
 -- Rows by rising path: where those stand that a touch takes away.
-use Rattle.std.proofs.Common.{zero, suc, ◌≡◌, ℕ, ◌+◌, ◌<◌, ◌≤◌, Bool, true, false, not, cond, ◌&&◌, ◌||◌, List, [], ◌∷◌, ◌++◌, filter, length, drop, take, get_or, refl, sym, ap, ◌∙◌, subst, arith, ◌==◌, append-nil}
+use Rattle.std.proofs.Common.{zero, suc, ◌≡◌, ℕ, ◌<◌, ◌≤◌, Bool, true, false, not, cond, ◌&&◌, ◌||◌, List, [], ◌∷◌, ◌++◌, filter, length, drop, take, get_or, refl, sym, ap, ◌∙◌, subst, arith, ◌==◌, append-nil}
 use Rattle.std.specs.Cmp.{IsStrictWeakOrder, IsTotalOrder}
-use Rattle.std.specs.Cmp.Lexicographic.{nat_list_cmp_total, slice_cmp, pointwise}
-use Rattle.std.specs.Ordering.{is_lt, is_eq, nat_cmp, ordering_then, ordering_reverse, eq_by_cmp}
+use Rattle.std.specs.Cmp.Lexicographic.{nat_list_cmp_total}
+use Rattle.std.specs.Ordering.{is_lt, is_eq, ordering_then, ordering_reverse}
 use Rattle.std.specs.declared.cmp.Ordering.{Ordering}
 use Rattle.std.specs.declared.cmp.Ordering.TheVariants.{Less, Equal, Greater}
 use Rattle.std.specs.List.{All, AllByRecursion, AllWithin, insert, remove}
@@ -12,7 +12,7 @@ use Rattle.std.proofs.lemmas.Cmp.{tied_itself}
 use Rattle.std.proofs.lemmas.Map.Text.{is_eq-slice_cmp}
 use Rattle.std.proofs.lemmas.Slice.Eq.{bytes_eq-Decides}
 use Rattle.tm_base.specs.Paths.{Names, path_cmp, name_cmp, is_prefix, same_path, path_ties}
-use Rattle.tm_base.proofs.Facts.{false_true, true_false, both_true}
+use Rattle.tm_base.proofs.Facts.{false_true, true_false}
 use Rattle.tm_base.proofs.PathLemmas.{same_path_decides, is_prefix_of_append, prefix_is, path_cmp-append}
 use Rattle.tm_tree.proofs.Order.{path_total}
 use Rattle.tm_tree.specs.declared.rows.Row.{Row}

@@ -3,12 +3,11 @@ use Rattle.std.proofs.Common.{◌≡◌, ℕ, ◌+◌, ◌<◌, Bool, true, fals
 use Rattle.std.proofs.lemmas.Bool.Decides.{Decides-ltb, Decides-eqb}
 use Rattle.std.proofs.lemmas.List.{append-nil}
 use Rattle.tm_base.specs.Paths.{Names, is_prefix, same_path}
-use Rattle.tm_base.proofs.Facts.{false_true, true_false, both_true}
+use Rattle.tm_base.proofs.Facts.{false_true, both_true}
 use Rattle.tm_base.proofs.PathLemmas.{same_path_decides, is_prefix_of_append}
 use Rattle.tm_tree.proofs.CopyProofs.{is_prefix_trans}
 use Rattle.tm_tree.specs.declared.rows.Row.{Row}
-use Rattle.tm_tree.specs.declared.rows.Touch.{Touch}
-use Rattle.tm_journal.specs.Rows.{must_scan, replaces, add_touch, add_touches, row_of, rows_above, root_row}
+use Rattle.tm_journal.specs.Rows.{must_scan, replaces, add_touch, row_of, rows_above, root_row}
 use Rattle.tm_journal.specs.Cover.{covers, are_covering, covered_since, touched, TouchStaysCovered, TouchesStayCovered, DropCoversAll}
 
 -- ---- truth values

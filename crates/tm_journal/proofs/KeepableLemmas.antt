@@ -1,12 +1,10 @@
 -- Touches and drops leave rows that an image may keep.
-use Rattle.std.proofs.Common.{zero, suc, ◌≡◌, ℕ, ◌+◌, ◌<◌, ◌≤◌, ◌⊎◌, inl, inr, Bool, true, false, not, cond, List, [], ◌∷◌, ◌++◌, filter, length, nat_lt, refl, sym, subst, arith}
+use Rattle.std.proofs.Common.{suc, ◌≡◌, ℕ, ◌+◌, ◌<◌, ◌≤◌, inl, inr, Bool, true, false, not, cond, List, [], ◌∷◌, ◌++◌, filter, length, nat_lt, refl, subst, arith}
 use Rattle.std.specs.List.{All}
-use Rattle.std.proofs.lemmas.Bool.Decides.{Decides-ltb}
 use Rattle.std.proofs.lemmas.List.Elements.{All-append, All-filter}
-use Rattle.tm_base.proofs.Facts.{all_one, false_true, true_false}
+use Rattle.tm_base.proofs.Facts.{all_one}
 use Rattle.tm_tree.specs.declared.rows.Row.{Row}
-use Rattle.tm_tree.specs.declared.rows.Touch.{Touch}
-use Rattle.tm_journal.specs.Rows.{replaces, root_row, capped, add_touch, add_touches, row_of, dropped}
+use Rattle.tm_journal.specs.Rows.{replaces, root_row, add_touch, add_touches, row_of}
 use Rattle.tm_journal.specs.Keepable.{AreFlags, AreKeepable, TouchesStayKeepable, DropStaysKeepable, LaterStaysKeepable}
 use Rattle.tm_journal.proofs.ById.{less_not, all_from, rising_from, rising_to, rising_filter, rising_push}
 

@@ -1,6 +1,6 @@
 -- What edits of the rows keep.
-use Rattle.std.proofs.Common.{zero, suc, ◌≡◌, ℕ, ◌+◌, ◌<◌, ◌≤◌, Bool, true, false, not, cond, List, [], ◌∷◌, ◌++◌, filter, length, drop, take, get_or, refl, sym, ap, ◌∙◌, subst, arith, append_assoc, append-nil, Option, Some, None, option_to_list, ⊎_elim, ◌||◌}
-use Rattle.std.specs.List.{All, AllByRecursion, AllWithin, insert}
+use Rattle.std.proofs.Common.{suc, ◌≡◌, ℕ, ◌+◌, ◌<◌, ◌≤◌, Bool, true, false, not, List, [], ◌∷◌, ◌++◌, filter, length, drop, take, get_or, refl, sym, ap, ◌∙◌, subst, arith, append_assoc, Option, Some, None, option_to_list, ⊎_elim, ◌||◌}
+use Rattle.std.specs.List.{All, AllByRecursion, insert}
 use Rattle.std.specs.List.Sorted.{IsPermutation, IsNonDecreasingBy, IsPartitionPoint}
 use Rattle.std.proofs.lemmas.Bool.{cases_lt}
 use Rattle.std.proofs.lemmas.List.{take-append-drop}
@@ -14,7 +14,7 @@ use Rattle.tm_journal.specs.Rows.{AreRising, must_scan, replaces, root_row}
 use Rattle.tm_journal.specs.Cover.{covers}
 use Rattle.tm_journal.specs.Journals.{IsInOrder}
 use Rattle.tm_journal.specs.Kept.{is_before, reaches, IsByPath, by_id, put_by_id, IsKept}
-use Rattle.tm_journal.proofs.ById.{Rising, NonDec, all_from, all_to, all_moved, put_last, by_id_middle, filter_by_id, non_dec_by_id, perm_by_id, sorted_is, rising_from, rising_to, rising_filter, rising_push}
+use Rattle.tm_journal.proofs.ById.{NonDec, all_from, all_moved, put_last, by_id_middle, filter_by_id, non_dec_by_id, perm_by_id, sorted_is, rising_from, rising_to, rising_filter, rising_push}
 use Rattle.tm_journal.proofs.ByPath.{by_path_filter, filter_ends, before_kept, past_kept, place_covered, scan_replaces}
 
 -- ---- in order

@@ -1,5 +1,5 @@
 -- What rows cover, and that touches and drops never cover less.
-use Rattle.std.specs.Prelude.{◌≡◌, ℕ, ◌<◌, ◌≤◌, Bool, true, ◌||◌, if◌then◌else◌, List}
+use Rattle.std.specs.Prelude.{◌≡◌, ℕ, ◌<◌, Bool, true, ◌||◌, if◌then◌else◌, List}
 use Rattle.std.specs.List.{list_any}
 use Rattle.tm_base.specs.Paths.{Names, same_path, is_prefix}
 use Rattle.tm_tree.specs.declared.rows.Row.{Row}

@@ -1,5 +1,5 @@
 -- What a journal is seen as, and what it answers.
-use Rattle.std.specs.Prelude.{ℕ, ◌≤◌, ◌≡◌, ◌==◌, if◌then◌else◌, List, length}
+use Rattle.std.specs.Prelude.{ℕ, ◌≤◌, ◌==◌, if◌then◌else◌, List, length}
 use Rattle.tm_tree.specs.declared.rows.Row.{Row}
 use Rattle.tm_tree.specs.declared.rows.Mark.{Mark}
 use Rattle.tm_journal.specs.declared.since.Since.{Since}

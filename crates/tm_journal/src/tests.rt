@@ -28,6 +28,7 @@ fn touch(journal: &mut Journal, id: u64, next: u64, path: Path, flags: u8)
     requires below { id < next }
     ensures below { All (λ row. row.id < next) journal.new.rows }
     ensures generation { journal.new.generation ≡ journal.old.generation }
+    ensures capacity { journal.new.capacity ≡ journal.old.capacity }
     ensures room { journal.old.room ≤ journal.new.room + 1 }
 {
     journal.add(id, path, flags);
@@ -36,7 +37,7 @@ fn touch(journal: &mut Journal, id: u64, next: u64, path: Path, flags: u8)
 // A journal after touches, each with its id, path and flags.
 fn touched(alloc: Global, capacity: u32, touches: &[(u32, &str, u8)]) -> Result<Journal, Fail>
     requires { 1 ≤ capacity }
-    ensures { IfOk result (λ journal. journal.generation ≡ 1) }
+    ensures { IfOk result (λ journal. (journal.generation ≡ 1) × (journal.capacity ≡ capacity)) }
 {
     let mut journal = Journal::new(alloc, ID, 1, capacity);
     journal.reserve(touches.len())?;
@@ -165,10 +166,31 @@ fn a_lost_history_is_told(rt: HostRuntime) -> Result<(), Fail> {
     Ok(())
 }
 
+// A journal of the rows of another.
+fn again(journal: &Journal, capacity: u32) -> Result<Journal, Fail>
+    requires { capacity ≡ journal.now.capacity }
+    ensures { IfOk result (λ journal. journal.generation ≡ 2) }
+{
+    journal.rules();
+    let mark = Mark {
+        generation: journal.generation(),
+        cursor: 0,
+    };
+    match journal.since(&mark)? {
+        Since::Rows(rows) => Ok(Journal::from_rows(ID, 2, capacity, rows)),
+        Since::Lost => Err("lost")?,
+    }
+}
+
 #[test]
 fn kept_rows_are_read_again(rt: HostRuntime) -> Result<(), Fail> {
     let alloc = rt.alloc();
-    let journal = Journal::from_rows(ID, 2, 3, RowList::of(Vec::new(alloc)));
-    assert_eq!(rt; since(alloc, &journal, 0)?.as_str(), "");
+    let touches = [(1, "/b", 0), (2, "/a", 0), (3, "/c", 1), (4, "/a/d", 0)];
+    let journal = touched(alloc, 5, &touches)?;
+    let journal = again(&journal, 5)?;
+    assert_eq!(rt;
+        since(alloc, &journal, 1)?.as_str(),
+        "2 0 /a;3 1 /c;4 0 /a/d;"
+    );
     Ok(())
 }

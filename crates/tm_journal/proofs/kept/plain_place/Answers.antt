@@ -1,4 +1,4 @@
-use Rattle.std.proofs.Common.{◌≡◌, ◌<◌, ◌≤◌, not, get_or, ap, ⊎_elim, arith}
+use Rattle.std.proofs.Common.{◌<◌, ◌≤◌, not, get_or, ap, ⊎_elim, arith}
 use Rattle.std.proofs.lemmas.Bool.{cases_lt}
 use Rattle.tm_journal.proofs.ByPath.{before_kept, past_kept, plain_keeps}
 use Rattle.tm_journal.proofs.kept.plain_place.Goals as goal

@@ -1,4 +1,4 @@
-use Rattle.std.proofs.Common.{◌≡◌, not, filter, option_to_list, ap, ◌∙◌}
+use Rattle.std.proofs.Common.{not, filter, option_to_list, ap, ◌∙◌}
 use Rattle.tm_journal.specs.Rows.{replaces}
 use Rattle.tm_journal.specs.Journals.{JournalState}
 use Rattle.tm_journal.proofs.Keeping.{forgotten_kept, forgotten_are}

@@ -1,6 +1,5 @@
-use Rattle.std.proofs.Common.{◌≡◌, ◌<◌, [], ◌∷◌, ◌++◌, All, length, option_to_list, sym, subst, ap, ◌∙◌}
+use Rattle.std.proofs.Common.{◌<◌, [], ◌∷◌, ◌++◌, All, length, option_to_list, sym, subst, ap, ◌∙◌}
 use Rattle.tm_journal.specs.Journals.{JournalState}
-use Rattle.tm_journal.specs.Kept.{by_id}
 use Rattle.tm_journal.proofs.Keeping.{inserted_kept, put_are}
 use Rattle.tm_journal.proofs.journal.Journal.put.Goals as goal
 
