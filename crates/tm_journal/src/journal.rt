@@ -1,8 +1,8 @@
 //! The rows of a journal, with memory that is taken before it is needed.
-ghost use Rattle.std.specs.Prelude.{◌≡◌, ℕ, [], ◌∷◌, ◌++◌, ◌+◌, ◌-◌, ◌^◌, ◌<◌, ◌≤◌, OnOk, OnErr, IfOk, All, length, filter, not, vec_len, vec_capacity, option_to_list};
+ghost use Rattle.std.specs.Prelude.{◌≡◌, [], ◌∷◌, ◌++◌, ◌+◌, ◌^◌, ◌<◌, ◌≤◌, OnOk, OnErr, IfOk, All, length, filter, not};
 ghost use Rattle.std.specs.Int.{w128, to_be_bytes};
 ghost use Rattle.std.specs.Int.Bits.{bit_xor};
-ghost use Rattle.tm_journal.specs.Rows.{replaces, root_row, add_touch, dropped, must_scan, AreRising};
+ghost use Rattle.tm_journal.specs.Rows.{replaces, root_row, add_touch, dropped};
 ghost use Rattle.tm_journal.specs.Journals.{JournalState, IsInOrder, rows_since};
 
 use crate::kept;

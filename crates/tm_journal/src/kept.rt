@@ -1,11 +1,10 @@
 //! Rows by rising path: a touch finds those that it takes away by halving, and its own place.
-ghost use Rattle.std.specs.Prelude.{◌≡◌, ℕ, ◌+◌, ◌<◌, ◌≤◌, ◌++◌, ◌∷◌, [], All, IfSome, IfNone, IfOk, OnOk, OnErr, Bool, true, false, not, filter, length, take, drop, nat_lt, slice_index_or, vec_len, vec_capacity, option_to_list};
+ghost use Rattle.std.specs.Prelude.{◌≡◌, ℕ, ◌+◌, ◌<◌, ◌≤◌, ◌++◌, All, IfSome, IfNone, IfOk, OnOk, true, false, not, filter, length, slice_index_or, vec_len, vec_capacity, option_to_list};
 ghost use Rattle.std.specs.List.{insert, remove_range};
 ghost use Rattle.std.specs.List.Sorted.{IsPartitionPoint, IsPermutation, IsNonDecreasingBy};
-ghost use Rattle.tm_base.specs.Paths.{path_cmp};
 ghost use Rattle.tm_journal.specs.Rows.{must_scan, replaces, rows_above};
 ghost use Rattle.tm_journal.specs.Cover.{covers};
-ghost use Rattle.tm_journal.specs.Kept.{IsByPath, is_before, reaches, by_id};
+ghost use Rattle.tm_journal.specs.Kept.{IsByPath, is_before, reaches};
 
 use std::alloc::AllocError;
 use tm_base::Path;
