@@ -126,9 +126,8 @@ impl Journal {
         Ok(Since::Rows(RowList::of(rows)))
     }
 
-    /// Drops all events: one row at the root stands for them. It takes no memory.
+    /// Drops all events: one row at the root, with a new id, stands for them. It takes no memory.
     pub fn drop_all(&mut self, id: u64)
-        requires { All (λ row. row.id < id) self.old.rows }
         ensures id { self.new.id ≡ self.old.id }
         ensures generation { self.new.generation ≡ self.old.generation }
         ensures capacity { self.new.capacity ≡ self.old.capacity }
