@@ -1,11 +1,13 @@
 -- Touches and drops leave rows that an image may keep.
-use Rattle.std.proofs.Common.{suc, ◌≡◌, ℕ, ◌+◌, ◌<◌, ◌≤◌, inl, inr, Bool, true, false, not, cond, List, [], ◌∷◌, ◌++◌, filter, length, nat_lt, refl, subst, arith}
+use Rattle.std.proofs.Common.{suc, ◌≡◌, ℕ, ◌+◌, ◌<◌, ◌≤◌, inl, inr, Bool, true, false, not, cond, List, [], ◌∷◌, ◌++◌, filter, length, nat_lt, refl, subst, arith, get_or}
 use Rattle.std.specs.List.{All}
+use Rattle.std.proofs.lemmas.Bool.Decides.{Decides-ltb}
 use Rattle.std.proofs.lemmas.List.Elements.{All-append, All-filter}
 use Rattle.tm_base.proofs.Facts.{all_one}
 use Rattle.tm_tree.specs.declared.rows.Row.{Row}
 use Rattle.tm_journal.specs.Rows.{replaces, root_row, add_touch, add_touches, row_of}
-use Rattle.tm_journal.specs.Keepable.{AreFlags, AreKeepable, TouchesStayKeepable, DropStaysKeepable, LaterStaysKeepable}
+use Rattle.tm_journal.specs.Keepable.{AreFlags, AreKeepable, TouchesStayKeepable, DropStaysKeepable, LaterStaysKeepable, KeepableAreAboveZero}
+use Rattle.tm_journal.proofs.ByPath.{filter_all}
 use Rattle.tm_journal.proofs.ById.{less_not, all_from, rising_from, rising_to, rising_filter, rising_push}
 
 all_more : (P Q : Row → Type 0) (rows : List Row) → ((row : Row) → P row → Q row) → All P rows → All Q rows
@@ -63,3 +65,6 @@ below_next capacity next rows touch l h = by_test (nat_lt capacity (length (left
     by_test false =
         All-append (λ (r : Row). r.id < next) _ _ (All-filter _ (λ (r : Row). r.id < next) rows (all_more (λ row. row.id < touch.id) (λ row. row.id < next) rows (λ row m. omega (arith, m, l)) h))
         (all_one (λ (r : Row). r.id < next) touch l)
+
+pub keepable_are_above_zero : KeepableAreAboveZero
+keepable_are_above_zero capacity next rows h = filter_all (λ row. nat_lt 0 row.id) rows (λ k d l. let low = h.low k d l in (Decides-ltb 0 (get_or rows k d).id).1 (omega (arith, low)))

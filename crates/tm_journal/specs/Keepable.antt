@@ -2,7 +2,7 @@
 use Rattle.std.specs.Prelude.{◌≡◌, ℕ, ◌+◌, ◌<◌, ◌≤◌, ◌⊎◌, List, length, All}
 use Rattle.tm_tree.specs.declared.rows.Row.{Row}
 use Rattle.tm_tree.specs.declared.rows.Touch.{Touch}
-use Rattle.tm_journal.specs.Rows.{AreRising, add_touches, dropped}
+use Rattle.tm_journal.specs.Rows.{AreRising, add_touches, dropped, rows_above}
 
 -- 0, 1, 3 or 5
 abbrev pub AreFlags : ℕ → Type 0
@@ -32,3 +32,7 @@ DropStaysKeepable = (capacity id : ℕ) → 1 ≤ capacity → 1 ≤ id → AreK
 -- numbers may be drawn for something else
 abbrev pub LaterStaysKeepable : Type 0
 LaterStaysKeepable = (capacity next later : ℕ) (rows : List Row) → next ≤ later → AreKeepable capacity next rows → AreKeepable capacity later rows
+
+-- read from 0 they are all of them
+abbrev pub KeepableAreAboveZero : Type 0
+KeepableAreAboveZero = (capacity next : ℕ) (rows : List Row) → AreKeepable capacity next rows → rows_above 0 rows ≡ rows

@@ -45,8 +45,8 @@ impl Model for Journal {
 }
 
 impl Journal {
-    /// A journal without rows, of a volume's id and generation, for at most `capacity` rows. It
-    /// takes no memory.
+    /// A journal without rows, of a volume's id and generation, for at most `capacity` rows, at
+    /// least 1. It takes no memory.
     pub fn new(alloc: Global, id: u128, generation: u64, capacity: u32) -> Journal
         requires { 1 ≤ capacity }
         ensures id { result.id ≡ id }
@@ -63,7 +63,8 @@ impl Journal {
         }
     }
 
-    /// A journal of rows that were kept. It takes no memory.
+    /// A journal of rows that were kept, which rise and are no more than the capacity. It takes no
+    /// memory.
     pub fn from_rows(id: u128, generation: u64, capacity: u32, rows: RowList) -> Journal
         requires { IsInOrder capacity rows }
         ensures id { result.id ≡ id }
@@ -82,7 +83,7 @@ impl Journal {
         }
     }
 
-    /// Takes memory for so many more touches.
+    /// Takes memory for so many more touches; only want of memory can refuse it.
     pub fn reserve(&mut self, more: usize) -> Result<(), AllocError>
         ensures ok { OnOk result (more ≤ self.new.room) }
         ensures err { OnErr result (self.new ≡ self.old) }
@@ -94,8 +95,9 @@ impl Journal {
         self.rows.reserve(more)
     }
 
-    /// Adds a touch, into memory that was taken for it. Rows that it makes needless go, and where
-    /// there are too many then, one at the root takes their place.
+    /// Adds a touch of a folder, with an id above all others, into memory that was taken for it.
+    /// The flags are 0 for the folder alone, and 1 (MustScanSubDirs) for all beneath it too. Rows
+    /// that it makes needless go; where there are too many then, one at the root takes their place.
     pub fn add(&mut self, id: u64, path: Path, flags: u8)
         requires room { 1 ≤ self.old.room }
         requires above { All (λ row. row.id < id) self.old.rows }
@@ -115,7 +117,7 @@ impl Journal {
     }
 
     /// The rows since a mark, or that they are lost: exactly where the mark is of another
-    /// generation.
+    /// generation. Only want of memory can refuse it.
     pub fn since(&self, mark: &Mark) -> Result<Since, AllocError>
         ensures { IfOk result (λ since. since ≡ rows_since self.now.generation self.now.rows mark.now) }
     {
@@ -137,7 +139,7 @@ impl Journal {
         self.leave_one(id, DROPPED);
     }
 
-    /// Loses the history: a new generation begins, without rows. It takes no memory.
+    /// Loses the history: the next generation begins, without rows. It takes no memory.
     pub fn lose(&mut self)
         requires { self.old.generation < 2 ^ 62 }
         ensures id { self.new.id ≡ self.old.id }

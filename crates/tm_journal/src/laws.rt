@@ -1,5 +1,5 @@
 //! What the rows of a journal cover, and that an image may keep them (`docs/DEFINITIONS.md`, "The journal").
-ghost use Rattle.tm_journal.specs.Keepable.{TouchesStayKeepable, DropStaysKeepable, LaterStaysKeepable};
+ghost use Rattle.tm_journal.specs.Keepable.{TouchesStayKeepable, DropStaysKeepable, LaterStaysKeepable, KeepableAreAboveZero};
 ghost use Rattle.tm_journal.specs.Cover.{TouchStaysCovered, TouchesStayCovered, DropCoversAll};
 
 /// What the rows above a cursor covered before a touch they cover after it, and what it touches.
@@ -31,4 +31,9 @@ pub fn drop_stays_keepable()
 /// An image may keep the rows also where the volume's next number has grown.
 pub fn later_stays_keepable()
     ensures { LaterStaysKeepable }
+{}
+
+/// Of rows that an image may keep all are above the id 0.
+pub fn keepable_are_above_zero()
+    ensures { KeepableAreAboveZero }
 {}

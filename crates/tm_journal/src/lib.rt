@@ -9,8 +9,8 @@ mod since;
 
 pub use journal::Journal;
 pub use laws::{
-    drop_covers_all, drop_stays_keepable, later_stays_keepable, touch_stays_covered,
-    touches_stay_covered, touches_stay_keepable,
+    drop_covers_all, drop_stays_keepable, keepable_are_above_zero, later_stays_keepable,
+    touch_stays_covered, touches_stay_covered, touches_stay_keepable,
 };
 pub use since::Since;
 
