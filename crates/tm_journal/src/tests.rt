@@ -1,5 +1,5 @@
 //! What no clause says: that the calls succeed with ample memory, and rows worked by hand.
-ghost use Rattle.std.specs.Prelude.{◌≡◌, ◌+◌, ◌<◌, ◌≤◌, All, OnOk, IfOk};
+ghost use Rattle.std.specs.Prelude.{◌≡◌, ◌+◌, ◌<◌, ◌≤◌, All, IfOk};
 
 use crate::{Journal, Since};
 use std::alloc::Global;
