@@ -105,7 +105,7 @@ fn other_words_are_the_usage(rt: HostRuntime) -> Result<(), Fail> {
     let table: [&[&str]; 6] = [
         &[],
         &["--volume", "v", "--store", "s"],
-        &["--store", "s", "--volume", "v", "--script", "p"],
+        &["--help"],
         &["--volume", "v", "--store", "v", "--script", "p"],
         &["--volume", "v", "--store", "s", "--script", "p", "more"],
         &["--volume", "v", "--store", "s", "--script"],

@@ -1,4 +1,3 @@
-pub mod CommandLemmas
 pub mod ScriptLemmas
 pub mod SayLemmas
 pub mod PairLemmas

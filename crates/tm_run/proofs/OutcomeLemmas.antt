@@ -17,8 +17,8 @@ use Rattle.tm_world.specs.Torn.{as_read}
 use Rattle.tm_world.specs.declared.cause.Cause.{Cause}
 use Rattle.tm_run.specs.declared.status.Status.{Status}
 use Rattle.tm_run.specs.declared.status.Status.TheVariants as status
-use Rattle.tm_run.specs.Command.{IsCommand, IsSomeCommand}
-use Rattle.tm_run.proofs.CommandLemmas.{one_command}
+use Rattle.tm_command.specs.Command.{IsCommand, IsSomeCommand}
+use Rattle.tm_command.proofs.CommandLemmas.{one_command}
 use Rattle.tm_run.proofs.PairLemmas.{image_small, store_small}
 use Rattle.tm_run.specs.Outcomes.{IsStart, Outcome, Ran, usage, too_long, bad, runs, bad_volume, bad_store, replies, done_status, bad_line, bad_image_line}
 use Rattle.tm_run.specs.Pairs.{AreSmall, found}
@@ -30,7 +30,7 @@ some_command {words} {v} {s} {p} {create} is = record { volume = v; store = s; s
 one_script : (words : List (List ℕ)) (outside : Outside) (v s p script w t q other : List ℕ) (create make : Option ℕ)
     → IsCommand words v s p create → outside.scripts p ≡ Some script → IsCommand words w t q make → outside.scripts q ≡ Some other → script ≡ other
 one_script words outside v s p script w t q other create make a x b y =
-    let path : p ≡ q = (one_command words v s p w t q create make a b).2 in
+    let path : p ≡ q = (one_command words v s p create w t q make a b).2 in
     let both : Some script ≡ Some other = sym x ∙ ap outside.scripts path ∙ y in
     cc both
 
@@ -89,7 +89,7 @@ module _ (one_meaning : OneMeaning) (bad_is_outside : BadIsOutside) (one_first_b
 
   pub one_start : (lines others : List Line) (v w y z : Image) → IsStart words outside lines v z → IsStart words outside others w y → (lines ≡ others) × (v ≡ w) × (z ≡ y)
   one_start lines others v w y z a b =
-      let same = one_command words a.volume a.store a.path b.volume b.store b.path a.create b.create a.command b.command in
+      let same = one_command words a.volume a.store a.path a.create b.volume b.store b.path b.create a.command b.command in
       let script : a.script ≡ b.script = start_script a b.command b.stands in
       let volumes : found a.volume a.create outside ≡ found b.volume b.create outside =
       ap (λ (p : List ℕ). found p a.create outside) same.0 ∙ ap (λ (c : Option ℕ). found b.volume c outside) same.3 in

@@ -10,7 +10,7 @@ use Rattle.tm_world.specs.declared.world.Part.TheVariants as part
 use Rattle.tm_world.specs.declared.world.Side.TheVariants.{Volume as VolumeSide, Store as StoreSide}
 use Rattle.tm_world.proofs.Disks.{loose_synced}
 use Rattle.tm_world.proofs.Sides.{is_place-same, is_place-sym, disk-put_disk, disk_other-put_volume, disk_other-put_store, AreApart-put_disk}
-use Rattle.tm_run.specs.Command.{IsCommand, IsEnd}
+use Rattle.tm_command.specs.Command.{IsCommand, IsCreate}
 use Rattle.tm_run.specs.Pairs.{AreSmall, IsPair, found}
 use Rattle.tm_base.specs.Limits.{max_blocks}
 
@@ -118,12 +118,13 @@ said_put s d = (refl, refl)
 found_small : (p : List ℕ) (create : Option ℕ) (s : Outside) → AreSmall s → (made create).count ≤ max_blocks → (found p create s).count ≤ max_blocks
 found_small p create s small few = elim ((s.stands (Some p)).there) as (λ b. (if b then s.stands (Some p) else made create).count ≤ max_blocks) [ true ↦ small (Some p) | false ↦ few ]
 
-made_small : (rest : List (List ℕ)) (create : Option ℕ) → IsEnd rest create → (made create).count ≤ max_blocks
-made_small rest None h = omega arith
-made_small rest (Some blocks) h = omega (arith, h.is.most)
+made_small : (text : Option (List ℕ)) (create : Option ℕ) → IsCreate text create → (made create).count ≤ max_blocks
+made_small text None h = omega arith
+made_small None (Some blocks) h = absurd h
+made_small (Some text) (Some blocks) h = omega (arith, h.most)
 
 pub image_small : (words : List (List ℕ)) (v z p : List ℕ) (create : Option ℕ) (s : Outside) → AreSmall s → IsCommand words v z p create → (found v create s).count ≤ max_blocks
-image_small words v z p create s small command = found_small v create s small (made_small command.rest create command.end)
+image_small words v z p create s small command = found_small v create s small (made_small _ create command.names.create_is)
 
 pub store_small : (words : List (List ℕ)) (v z p : List ℕ) (create : Option ℕ) (s : Outside) → AreSmall s → IsCommand words v z p create → (found z create s).count ≤ max_blocks
-store_small words v z p create s small command = found_small z create s small (made_small command.rest create command.end)
+store_small words v z p create s small command = found_small z create s small (made_small _ create command.names.create_is)

@@ -11,7 +11,7 @@ use Rattle.tm_run.specs.declared.status.Status.{Status}
 use Rattle.tm_run.specs.declared.status.Status.TheVariants as status
 use Rattle.tm_run.specs.declared.top.ScriptEnd.{ScriptEnd}
 use Rattle.tm_run.specs.declared.top.ScriptEnd.TheVariants.{TooLong, BadLine}
-use Rattle.tm_run.specs.Command.{IsCommand}
+use Rattle.tm_command.specs.Command.{IsCommand}
 use Rattle.tm_run.specs.Scripts.{IsReading, StandsWith}
 use Rattle.tm_run.specs.Outcomes.{FitsStart, IsStart, OneStart, Outcome, OneOutcome, Ran, StartsRun, too_long, bad, bad_store, bad_volume, done_status, replies, runs, bad_line, too_long_line}
 use Rattle.tm_run.specs.Ends.{IsBefore, IsDone, NotCutShort, SaysAll, SaysPrefix, Speaks, GaveOutcome, GaveRan}
@@ -19,7 +19,7 @@ use Rattle.tm_run.specs.Pairs.{AreSmall, found, image_at}
 use Rattle.tm_run.specs.Claims.{KeepsBoth, LeavesEnd, NamesNoLines, PassesPlain, ReadsFit, RunsOver, StaysElsewhere, StaysFit}
 use Rattle.tm_run.specs.Moments.{IsMoment, RanOver, Stage, going_on, untouched}
 use Rattle.tm_run.specs.Places.{ElsewhereSame, FindsPair, KeepsImage, LeavesAt}
-use Rattle.tm_run.specs.Command.{IsSomeCommand}
+use Rattle.tm_command.specs.Command.{IsSomeCommand}
 use Rattle.tm_world.specs.Log.{Log, now, Passes}
 use Rattle.tm_world.proofs.Going.{Passes-now, Passes-then, Passes-weaker}
 use Rattle.tm_volume.specs.Answers.{IsSpent}
@@ -31,7 +31,7 @@ use Rattle.tm_machine.specs.Histories.{EffectsEnd, HeldFits, History, HistoryWhe
 use Rattle.tm_machine.specs.Runs.{any_refused, state_after}
 use Rattle.tm_machine.specs.States.{Stored, kept, opened}
 use Rattle.tm_machine.specs.Stops.{CanOpen, PairReads}
-use Rattle.tm_run.proofs.CommandLemmas.{one_command}
+use Rattle.tm_command.proofs.CommandLemmas.{one_command}
 use Rattle.tm_run.proofs.FindingLemmas.{found_as_read, keeps_same}
 use Rattle.tm_run.proofs.PathLemmas.{history_ends}
 use Rattle.tm_run.proofs.ScriptLemmas.{same_reads}
@@ -138,7 +138,7 @@ module _ (one : OneStart) (words : List (List ℕ)) (outside : Outside) (lines :
       → (others : List Line) (w y : Image) (also : IsStart words outside others w y) → P others w y also.volume also.store also.create
   start_tells P holds others w y also =
       let same = one words outside lines others v w y z start also in
-      let paths = one_command words start.volume start.store start.path also.volume also.store also.path start.create also.create start.command also.command in
+      let paths = one_command words start.volume start.store start.path start.create also.volume also.store also.path also.create start.command also.command in
       subst (λ (c : Option ℕ). P others w y also.volume also.store c) paths.3
       (subst (λ (q : List ℕ). P others w y also.volume q start.create) paths.1
       (subst (λ (p : List ℕ). P others w y p start.store start.create) paths.0
@@ -150,7 +150,7 @@ module _ (one : OneStart) (words : List (List ℕ)) (outside : Outside) (lines :
 pub command_tells : (words : List (List ℕ)) (v s p : List ℕ) (create : Option ℕ) → IsCommand words v s p create → (P : List ℕ → List ℕ → Option ℕ → Type 0) → P v s create
     → (w t q : List ℕ) (make : Option ℕ) → IsCommand words w t q make → P w t make
 command_tells words v s p create command P holds w t q make also =
-    let paths = one_command words v s p w t q create make command also in
+    let paths = one_command words v s p create w t q make command also in
     subst (λ (c : Option ℕ). P w t c) paths.3 (subst (λ (y : List ℕ). P w y create) paths.1 (subst (λ (x : List ℕ). P x s create) paths.0 holds))
 
 -- ---- no lines

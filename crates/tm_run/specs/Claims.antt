@@ -13,7 +13,7 @@ use Rattle.tm_machine.specs.Runs.{state_after}
 use Rattle.tm_machine.specs.States.{Stored, kept, opened}
 use Rattle.tm_machine.specs.Stops.{CanOpen, CanOpenStore, PairReads}
 use Rattle.tm_run.specs.declared.status.Status.{Status}
-use Rattle.tm_run.specs.Command.{IsCommand}
+use Rattle.tm_command.specs.Command.{IsCommand}
 use Rattle.tm_run.specs.Moments.{IsMoment, RanOver}
 use Rattle.tm_run.specs.Outcomes.{IsStart}
 use Rattle.tm_run.specs.Places.{ElsewhereSame, FindsPair, KeepsImage, Leaves, LeavesAt}

@@ -1,5 +1,4 @@
 pub mod Codes
-pub mod Command
 pub mod Scripts
 pub mod Pairs
 pub mod Outcomes

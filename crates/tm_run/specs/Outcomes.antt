@@ -18,7 +18,7 @@ use Rattle.tm_machine.specs.Stops.{CanOpen, CanOpenStore, PairReads}
 use Rattle.tm_machine.specs.Runs.{said_of, any_refused}
 use Rattle.tm_run.specs.declared.status.Status.{Status}
 use Rattle.tm_run.specs.declared.status.Status.TheVariants as status
-use Rattle.tm_run.specs.Command.{IsCommand, IsSomeCommand}
+use Rattle.tm_command.specs.Command.{IsCommand, IsSomeCommand}
 use Rattle.tm_run.specs.Pairs.{AreSmall, image_at}
 
 -- ---- the lines that a run says in place of replies

@@ -12,7 +12,7 @@ use Rattle.tm_machine.specs.States.{Stored}
 use Rattle.tm_machine.specs.Stops.{PairReads}
 use Rattle.tm_run.specs.declared.status.Status.{Status}
 use Rattle.tm_run.specs.Claims.{RunsOver}
-use Rattle.tm_run.specs.Command.{IsCommand}
+use Rattle.tm_command.specs.Command.{IsCommand}
 use Rattle.tm_run.specs.Ends.{NotCutShort}
 use Rattle.tm_run.specs.Outcomes.{done_status}
 use Rattle.tm_run.specs.Pairs.{image_at}

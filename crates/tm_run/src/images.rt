@@ -25,12 +25,12 @@ ghost use Rattle.tm_run.specs.Places.{ElsewhereSame};
 ghost use Rattle.tm_run.specs.Readings.{IsEndOfLines};
 ghost use Rattle.tm_run.specs.declared.status.Status.{Status};
 
-use crate::command::Command;
 use crate::lines::{RunEnd, run_lines};
 use crate::output::say_bad_image;
 use crate::pair::open_pair;
 use crate::status::Status;
 use std::alloc::Global;
+use tm_command::Command;
 use tm_machine::{
     LineEnd, Session, SessionError, commits_end, plain_is_history, plain_where_fits,
     session_is_left,

@@ -1,7 +1,6 @@
 //! The run of a script: from the words of the command to the bytes that are said.
 #![tactic(auto)]
 
-mod command;
 mod images;
 mod laws;
 mod lines;

@@ -12,8 +12,8 @@ ghost use Rattle.tm_world.specs.declared.world.Side.TheVariants.{Volume as Volum
 ghost use Rattle.tm_run.specs.Moments.{IsAttached, IsFinding};
 ghost use Rattle.tm_run.specs.Pairs.{IsPair, image_at};
 
-use crate::command::Command;
 use tm_base::Side;
+use tm_command::Command;
 use tm_world::{Failed, Part, Side as ImageSide, World};
 
 // Attaches both sides, the volume first. How many blocks each has, or which side failed.

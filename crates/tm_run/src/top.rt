@@ -1,25 +1,25 @@
 //! The top call.
-ghost use Rattle.std.specs.Prelude.{◌≡◌, ◌⊎◌, ℕ, List, All, Err, IfOk};
+ghost use Rattle.std.specs.Prelude.{◌≡◌, ℕ, List, All, Err, IfOk};
 ghost use Rattle.tm_world.specs.declared.world.Part.{Part};
 ghost use Rattle.tm_world.specs.Log.{now, Passes};
 ghost use Rattle.tm_world.specs.Faults.{Rose, NeverLess, part_at};
 ghost use Rattle.tm_base.specs.declared.refused.Side.{Side as RefusedSide};
 ghost use Rattle.tm_text.specs.Bounds.{IsValidLine};
-ghost use Rattle.tm_run.specs.Command.{texts, IsSomeCommand};
+ghost use Rattle.tm_command.specs.Command.{texts, IsSomeCommand};
 ghost use Rattle.tm_run.specs.Scripts.{IsReading};
 ghost use Rattle.tm_run.specs.Claims.{KeepsBesideStore, KeepsBesideVolume, LeavesEnd, NamesNoLines, NamesNoPair, PassesPlain, RunsOver, StaysElsewhere, StaysFit};
 ghost use Rattle.tm_run.specs.Outcomes.{FitsStart, Outcome};
-ghost use Rattle.tm_run.specs.Readings.{ReadsLines};
+ghost use Rattle.tm_run.specs.Readings.{EndsAsOrCut, ReadsLines};
 ghost use Rattle.tm_run.specs.Ends.{GaveOutcome, IsBefore, IsCut, IsDone, NotCutShort, SaysPrefix};
 ghost use Rattle.tm_run.specs.declared.status.Status.{Status};
 
-use crate::command::read_words;
 use crate::images::run_command;
 use crate::laws::one_outcome;
 use crate::output::{say_bad_line, say_last};
 use crate::script::{ScriptError, read_script};
 use crate::status::Status;
 use std::alloc::Global;
+use tm_command::{WordsError, read_words};
 use tm_machine::{commits_end, plain_is_history, plain_where_fits};
 use tm_text::{Lines, ParseError, parse};
 use tm_volume::laws::sides_read_as_one as volume_sides_read_as_one;
@@ -76,7 +76,7 @@ pub fn run<W: World>(alloc: Global, words: &[String], world: &mut W) -> Status
 
     // The causes of each status, also where contents are not told.
     ensures usage { result ≡ Status.Usage → IsSomeCommand (texts words.now) → ⊥ }
-    ensures not_command { (IsSomeCommand (texts words.now) → ⊥) → (result ≡ Status.Usage) ⊎ (result ≡ Status.OutFault) }
+    ensures not_command { (IsSomeCommand (texts words.now) → ⊥) → EndsAsOrCut Status.Usage result }
     ensures script_fault { result ≡ Status.ScriptFault → Rose (W.faults world.old Part.Script) (W.faults world.new Part.Script) }
     ensures out_fault { result ≡ Status.OutFault → Rose (W.faults world.old Part.Out) (W.faults world.new Part.Out) }
     ensures device { (side : RefusedSide) → result ≡ Status.Device side → Rose (W.faults world.old (part_at side)) (W.faults world.new (part_at side)) }
@@ -87,8 +87,10 @@ pub fn run<W: World>(alloc: Global, words: &[String], world: &mut W) -> Status
     plain_where_fits();
     plain_is_history();
     commits_end();
-    let Some(command) = read_words(words) else {
-        return say_last(world, USAGE, Status::Usage);
+    let command = match read_words(alloc, words) {
+        Ok(command) => command,
+        Err(WordsError::Usage) => return say_last(world, USAGE, Status::Usage),
+        Err(WordsError::Memory) => return Status::Memory,
     };
     match read_lines(alloc, world, command.script) {
         Ok(lines) => run_command(alloc, world, command, &lines),

@@ -4,8 +4,9 @@
 mod arguments;
 mod ending;
 
-ghost use Rattle.std.specs.Prelude.{◌≡◌, ◌⊎◌};
-ghost use Rattle.tm_run.specs.Command.{texts, IsSomeCommand};
+ghost use Rattle.std.specs.Prelude.{◌≡◌};
+ghost use Rattle.tm_command.specs.Command.{texts, IsSomeCommand};
+ghost use Rattle.tm_run.specs.Readings.{EndsAsOrCut};
 ghost use Rattle.tm_run.specs.declared.status.Status.{Status};
 
 use crate::arguments::{ArgumentsError, after_name, arguments};
@@ -18,7 +19,7 @@ use tm_run::{Status, run};
 /// Runs the command that the words after the program's name make, over files and standard output.
 fn run_words<R: Files + Print + AllocGlobal>(rt: &R, words: &[String]) -> Status
     ensures usage { result ≡ Status.Usage → IsSomeCommand (texts words.now) → ⊥ }
-    ensures not_command { (IsSomeCommand (texts words.now) → ⊥) → (result ≡ Status.Usage) ⊎ (result ≡ Status.OutFault) }
+    ensures not_command { (IsSomeCommand (texts words.now) → ⊥) → EndsAsOrCut Status.Usage result }
 {
     run(rt.alloc(), words, &mut FileWorld::new(rt))
 }

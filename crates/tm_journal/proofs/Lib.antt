@@ -1,0 +1,5 @@
+pub mod CoverLemmas
+mod ById
+mod ByPath
+mod Keeping
+mod KeepableLemmas

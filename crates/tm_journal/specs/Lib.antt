@@ -1,0 +1,5 @@
+pub mod Rows
+pub mod Cover
+pub mod Keepable
+pub mod Journals
+pub mod Kept
