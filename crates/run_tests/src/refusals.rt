@@ -247,8 +247,6 @@ pub(crate) const REFUSALS: [(Before, &[&str], &str); 23] = [
             "fsevents uuid",
             "fsevents drop",
             "fsevents lose",
-            "store stat /Backups.backupdb/Mac/Latest/HD",
-            "store df",
         ],
         "refused 27 NotBuilt\n",
     ),

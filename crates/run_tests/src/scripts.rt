@@ -17,7 +17,7 @@ bytes 5 hello\n\
 ok\n";
 
 /// Scripts that each run over a new pair.
-pub(crate) const SCRIPTS: [Run; 16] = [
+pub(crate) const SCRIPTS: [Run; 18] = [
     // A file, a backup, and the file from the snapshot.
     (FORMAT_BOTH, FIRST, FIRST_SAYS, Status::Done),
     // An empty script says nothing.
@@ -57,6 +57,67 @@ ok\n\
 ok\n\
 refused 5 NotFound\n",
         Status::DoneRefused,
+    ),
+    // A snapshot of what didn't change is the same folder under one root more.
+    (
+        FORMAT_BOTH,
+        "\
+write /f hello\n\
+tmutil startbackup --block\n\
+at 2009-03-02-100000\n\
+tmutil startbackup --block\n\
+store stat /Backups.backupdb/Mac/Latest/HD\n\
+store stat /Backups.backupdb/Mac/Latest/HD/none\n",
+        "\
+ok\n\
+finished 2009-03-02-090000 walked 1\n\
+ok\n\
+ok\n\
+finished 2009-03-02-100000 walked 1\n\
+ok\n\
+stat folder label 1 links 2\n\
+ok\n\
+refused 5 NotFound\n",
+        Status::DoneRefused,
+    ),
+    // A change in a folder makes each folder above it anew, and shares the rest.
+    (
+        FORMAT_BOTH,
+        "\
+mkdir /a\n\
+mkdir /a/b\n\
+mkdir /a/b/c\n\
+write /a/b/c/f one\n\
+write /a/s two\n\
+tmutil startbackup --block\n\
+at 2009-03-02-100000\n\
+write /a/b/c/f three\n\
+tmutil startbackup --block\n\
+store stat /Backups.backupdb/Mac/Latest/HD\n\
+store stat /Backups.backupdb/Mac/Latest/HD/a/b/c\n\
+store stat /Backups.backupdb/Mac/Latest/HD/a/s\n\
+store df\n",
+        "\
+ok\n\
+ok\n\
+ok\n\
+ok\n\
+ok\n\
+finished 2009-03-02-090000 walked 4\n\
+ok\n\
+ok\n\
+ok\n\
+finished 2009-03-02-100000 walked 4\n\
+ok\n\
+stat folder label 2 links 1\n\
+ok\n\
+stat folder label 2 links 1\n\
+ok\n\
+stat file label 1 links 2\n\
+ok\n\
+df blocks 64 free 57 nodes 11 stored 11 snapshots 2\n\
+ok\n",
+        Status::Done,
     ),
     // What a file was at the backup stays in its snapshot.
     (
