@@ -1,5 +1,5 @@
 -- Links lost with several roots.
-use Rattle.std.proofs.Common.{◌≡◌, ℕ, ◌+◌, ◌-◌, ◌≤◌, ◌<◌, Bool, true, false, cond, Option, Some, None, is_some, List, [], ◌∷◌, ◌++◌, refl, sym, ap, ◌∙◌, arith, nat_eq, sum_by, count_by, ◌==◌, ◌||◌, if◌then◌else◌, inl, inr, ◌⊎◌, ◌≢◌, subst, ⊎_elim}
+use Rattle.std.proofs.Common.{◌≡◌, ℕ, ◌+◌, ◌-◌, ◌≤◌, ◌<◌, ◌^◌, Bool, true, false, cond, Option, Some, None, is_some, List, [], ◌∷◌, ◌++◌, refl, sym, ap, ◌∙◌, arith, nat_eq, sum_by, count_by, ◌==◌, ◌||◌, if◌then◌else◌, inl, inr, ◌⊎◌, ◌≢◌, subst, ⊎_elim}
 use Rattle.std.specs.Option.{option_map, unwrap_or}
 use Rattle.std.specs.List.Sorted.{IsStrictlySortedBy}
 use Rattle.std.specs.Set.{is_member}
@@ -19,6 +19,9 @@ use Rattle.tm_graph.proofs.Lost.{distinct_falling, member_push, spends_nothing}
 
 pub push_all : (g : Nodes) (roots gone : List ℕ) (n q : ℕ) → lost_all g roots (gone ++ n ∷ []) q ≡ lost_all g roots gone q + names q (node g n)
 push_all g roots gone n q = grind (arith, common_steps)
+
+pub start_all : (g : Nodes) (roots gone : List ℕ) (q : ℕ) → gone ≡ [] → lost_all g roots gone q ≡ count_by (λ r. r == q) roots
+start_all g roots gone q e = rw e (omega arith)
 
 -- no node loses more links than it has
 pub all-le : (g : Nodes) (roots gone : List ℕ) (q : ℕ) → IsGraph g → HaveRootLinks g roots → IsStrictlySortedBy falling gone → lost_all g roots gone q ≤ links_of g q
@@ -46,6 +49,10 @@ not_there g q is high = by_node (node g q) refl
     by_node (Some row) e = absurd (let low = is.low q (ap (λ (o : Option NodeRow). is_some o) e) in omega (arith, low, high))
 
 -- ---- the walk
+
+-- no number is on a list on which there is none
+pub none_told : (list : List ℕ) (q : ℕ) (b : Bool) → list ≡ [] → b ≡ false → is_member nat_eq list q ≡ b
+none_told list q b e f = ap (λ (xs : List ℕ). is_member nat_eq xs q) e ∙ sym f
 
 -- where the walk has come to n
 module _ (g : Nodes) (roots gone : List ℕ) (n above q : ℕ) (is : IsGraph g) (lower : n < above) (le : n ≤ q)
@@ -157,3 +164,9 @@ one_linked g root l q = ⊎_elim
     (λ (e : q ≡ root). let one : ◌≡◌ {A = ℕ} (cond (q == root) 1 0) 1 = grind (arith, nat_tests) in let here : 0 < root_links g q = subst (λ (k : ℕ). 0 < root_links g k) (sym e) l in omega (arith, one_root root q, one, here))
     (λ (ne : q ≢ root). let none : ◌≡◌ {A = ℕ} (cond (q == root) 1 0) 0 = grind (arith, nat_tests) in omega (arith, one_root root q, none))
     (cases_eq q root)
+
+-- ---- an answer that isn't there
+
+pub absent_of : {A B : Type 0} (f : A → B) (r : Option A) (o : Option B) → ((x : A) → r ≡ Some x → ⊥) → option_map f r ≡ o → o ≡ None
+absent_of f None o never e = sym e
+absent_of f (Some x) o never e = absurd (never x refl)
