@@ -44,7 +44,7 @@ loop-number-preserved-in-Continue-branch-3 c =
     let row = sym c.in-Some-get.ensures.value in
     let count = λ (q : ℕ) (low : n < q) (high : q < c.loop-number.above). sym (old.counts q) ∙ ap (λ o. unwrap_or o 0) (c.in-Some.ensures.greatest q low high) in
     let spent : spends (lost_all g roots gone n) (node g n) ≡ true = ap (λ o. spends (lost_all g roots gone n) o) row
-        ∙ ap (λ k. is_spent c.in-Some-get.row.now.links k) (sym (old.counts n) ∙ ap (λ o. unwrap_or o 0) c.in-Some.ensures.found) ∙ sym c.is_spent.ensures ∙ c.if-is_spent.true in
+    ∙ ap (λ k. is_spent c.in-Some-get.row.now.links k) (sym (old.counts n) ∙ ap (λ o. unwrap_or o 0) c.in-Some.ensures.found) ∙ sym c.is_spent.ensures ∙ c.if-is_spent.true in
     let stays : (q : ℕ) → n ≤ q → lost_all g roots (gone ++ n ∷ []) q ≡ lost_all g roots gone q = λ q l. stays_lost g roots gone n c.loop-number.above q c.requires.graph c.in-Some.ensures.below l (count q) in
     record {
       counts = λ q. rw c.in_ok-push.ensures.items
@@ -74,9 +74,9 @@ loop-number-preserved-in-Continue-branch-4 c =
     let count = λ (q : ℕ) (low : n < q) (high : q < c.loop-number.above). sym (old.counts q) ∙ ap (λ o. unwrap_or o 0) (c.in-Some.ensures.greatest q low high) in
     let number = sym (old.counts n) ∙ ap (λ o. unwrap_or o 0) c.in-Some.ensures.found in
     let unspent : spends (lost_all g roots gone n) (node g n) ≡ false = ap (λ o. spends (lost_all g roots gone n) o) row
-        ∙ ap (λ k. is_spent c.in-Some-get.row.now.links k) number ∙ sym c.is_spent.ensures ∙ c.if-is_spent.false in
+    ∙ ap (λ k. is_spent c.in-Some-get.row.now.links k) number ∙ sym c.is_spent.ensures ∙ c.if-is_spent.false in
     let thinning : thins (lost_all g roots gone n) (node g n) ≡ true = ap (λ o. thins (lost_all g roots gone n) o) row
-        ∙ ap (λ k. is_thinned c.in-Some-get.row.now.links k) number ∙ sym c.is_thinned.ensures ∙ c.if-is_thinned.true in
+    ∙ ap (λ k. is_thinned c.in-Some-get.row.now.links k) number ∙ sym c.is_thinned.ensures ∙ c.if-is_thinned.true in
     record {
       counts = old.counts;
       falls = old.falls;
@@ -98,9 +98,9 @@ loop-number-preserved-else-is_thinned c =
     let count = λ (q : ℕ) (low : n < q) (high : q < c.loop-number.above). sym (old.counts q) ∙ ap (λ o. unwrap_or o 0) (c.in-Some.ensures.greatest q low high) in
     let number = sym (old.counts n) ∙ ap (λ o. unwrap_or o 0) c.in-Some.ensures.found in
     let unspent : spends (lost_all g roots gone n) (node g n) ≡ false = ap (λ o. spends (lost_all g roots gone n) o) row
-        ∙ ap (λ k. is_spent c.in-Some-get.row.now.links k) number ∙ sym c.is_spent.ensures ∙ c.if-is_spent.false in
+    ∙ ap (λ k. is_spent c.in-Some-get.row.now.links k) number ∙ sym c.is_spent.ensures ∙ c.if-is_spent.false in
     let unthinned : thins (lost_all g roots gone n) (node g n) ≡ false = ap (λ o. thins (lost_all g roots gone n) o) row
-        ∙ ap (λ k. is_thinned c.in-Some-get.row.now.links k) number ∙ sym c.is_thinned.ensures ∙ c.if-is_thinned.false in
+    ∙ ap (λ k. is_thinned c.in-Some-get.row.now.links k) number ∙ sym c.is_thinned.ensures ∙ c.if-is_thinned.false in
     record {
       counts = old.counts;
       falls = old.falls;
