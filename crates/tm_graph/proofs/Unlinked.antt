@@ -9,13 +9,13 @@ use Rattle.std.proofs.lemmas.Grind.{common_steps}
 use Rattle.std.proofs.lemmas.List.Sums.{sum_by-cons}
 use Rattle.tm_tree.specs.declared.node.NodeRow.{NodeRow}
 use Rattle.tm_graph.specs.Nodes.{Nodes, node, names, named, row_names, links_of, root_links, IsGraph, IsLinked, with_links}
-use Rattle.tm_graph.specs.Losing.{falling, spends, is_spent, less, without_all, IsGone, lost, after_loss}
+use Rattle.tm_graph.specs.Losing.{falling, spends, is_spent, less, without_all, IsGone, lost}
 use Rattle.tm_graph.specs.Unlinking.{lost_all, thins, is_thinned, HaveRootLinks, AreLost, after_losses}
 use Rattle.tm_graph.proofs.Taken.{Sorted, sum-without_all, weight}
 use Rattle.tm_graph.proofs.Same.{same_nodes, sorted-mapped, at-mapped}
 use Rattle.tm_graph.proofs.Shape.{same_named, same_entries, EntriesRise}
 use Rattle.tm_graph.proofs.Left.{sorted_without_all, at-without_all, links-less, names-less, there-less, rises-less}
-use Rattle.tm_graph.proofs.Lost.{distinct_falling, member_push, spends_nothing}
+use Rattle.tm_graph.proofs.Lost.{distinct_falling, member_push}
 
 pub push_all : (g : Nodes) (roots gone : List ℕ) (n q : ℕ) → lost_all g roots (gone ++ n ∷ []) q ≡ lost_all g roots gone q + names q (node g n)
 push_all g roots gone n q = grind (arith, common_steps)

@@ -1,5 +1,5 @@
 -- What a graph loses with root links of several nodes.
-use Rattle.std.specs.Prelude.{◌≡◌, ℕ, ◌+◌, ◌-◌, ◌≤◌, Bool, false, ◌&&◌, ◌==◌, nat_lt, nat_eq, if◌then◌else◌, Option, Some, None, List, map, count_by, sum_by}
+use Rattle.std.specs.Prelude.{◌≡◌, ℕ, ◌+◌, ◌-◌, ◌≤◌, Bool, false, ◌&&◌, ◌==◌, nat_lt, nat_eq, Option, Some, None, List, map, count_by, sum_by}
 use Rattle.std.specs.List.Sorted.{IsStrictlySortedBy}
 use Rattle.std.specs.Set.{is_member}
 use Rattle.tm_tree.specs.declared.node.NodeRow.{NodeRow}

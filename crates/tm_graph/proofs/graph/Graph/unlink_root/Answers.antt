@@ -1,4 +1,4 @@
-use Rattle.std.proofs.Common.{[], ◌∷◌, ◌∙◌, sym, subst}
+use Rattle.std.proofs.Common.{◌∙◌, sym, subst}
 use Rattle.tm_graph.specs.Nodes.{IsGraph}
 use Rattle.tm_graph.proofs.Left.{is_left, left_is_graph}
 use Rattle.tm_graph.proofs.Unlinked.{one_lost, one_gone, one_linked}
