@@ -1,5 +1,5 @@
 -- What stays of a graph stands where it stood.
-use Rattle.std.proofs.Common.{suc, ◌≡◌, ℕ, ◌+◌, ◌-◌, ◌<◌, Bool, true, false, cond, Option, Some, None, is_some, List, refl, sym, ap, ◌∙◌, arith, nat_eq, count_by, ◌==◌}
+use Rattle.std.proofs.Common.{suc, ◌≡◌, ℕ, ◌-◌, Bool, true, false, cond, Option, Some, None, is_some, List, refl, sym, ap, ◌∙◌, arith, nat_eq, count_by, ◌==◌}
 use Rattle.std.specs.Option.{option_map, unwrap_or}
 use Rattle.std.specs.Set.{is_member}
 use Rattle.tm_base.specs.Paths.{Names}
