@@ -13,7 +13,7 @@ use Rattle.tm_graph.proofs.Unlinked.{node-losses, losses_graph, losses_linked, r
 use Rattle.tm_identity.specs.Stores.{IsStore, IsUnderRoot, label_of}
 use Rattle.tm_identity.specs.Removals.{TreesStay}
 use Rattle.tm_identity.proofs.Kept.{IsPart, same_value, same_rows, stands_there, counted_member, member_counted}
-use Rattle.tm_removal.specs.Removing.{IsSplit, IsLeft}
+use Rattle.tm_removal.specs.Removing.{IsSplit, IsStoreWithout}
 
 pub may_go : (g : Nodes) (roots staying removed : List ℕ) → IsStore g roots → IsSplit roots staying removed → HaveRootLinks g removed
 may_go g roots staying removed st split q = omega (arith, st.rooted q, split q)
@@ -77,7 +77,7 @@ module _ (g : Nodes) (roots staying removed gone thinned : List ℕ) (st : IsSto
   pub trees_left : TreesStay g new staying
   trees_left v w alike s m = sym (same_rows w v new g is_graph part (λ n row other e f. sym (alike n other row f e)) (suc s) s (stays s m))
 
-pub is_left : (g : Nodes) (roots staying removed : List ℕ) → IsStore g roots → IsSplit roots staying removed → IsLeft g roots staying removed
+pub is_left : (g : Nodes) (roots staying removed : List ℕ) → IsStore g roots → IsSplit roots staying removed → IsStoreWithout g roots staying removed
 is_left g roots staying removed st split = record {
   may = may_go g roots staying removed st split;
   store = λ gone thinned goes. store_left g roots staying removed gone thinned st split goes;

@@ -10,10 +10,10 @@ abbrev pub IsSplit : List ℕ → List ℕ → List ℕ → Type 0
 IsSplit roots staying removed = (q : ℕ) → count_by (λ r. r == q) roots ≡ count_by (λ r. r == q) staying + count_by (λ r. r == q) removed
 
 -- the root links may be taken off, what is left is a store under the roots that stay, and their trees stay
-pub record IsLeft (g : Nodes) (roots staying removed : List ℕ) : Type 0 where
+pub record IsStoreWithout (g : Nodes) (roots staying removed : List ℕ) : Type 0 where
   pub may : HaveRootLinks g removed
   pub store : (gone thinned : List ℕ) → AreLost g removed gone thinned → IsStore (after_losses g removed gone) staying
   pub trees : (gone thinned : List ℕ) → AreLost g removed gone thinned → TreesStay g (after_losses g removed gone) staying
 
 abbrev pub RemovalsKeep : Type 0
-RemovalsKeep = (g : Nodes) (roots staying removed : List ℕ) → IsStore g roots → IsSplit roots staying removed → IsLeft g roots staying removed
+RemovalsKeep = (g : Nodes) (roots staying removed : List ℕ) → IsStore g roots → IsSplit roots staying removed → IsStoreWithout g roots staying removed
