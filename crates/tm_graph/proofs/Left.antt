@@ -12,7 +12,7 @@ use Rattle.tm_graph.proofs.Same.{same_nodes, sorted-mapped, at-mapped}
 use Rattle.tm_graph.proofs.Shape.{same_named, same_entries, EntriesRise, rises_none, rises_some}
 use Rattle.tm_graph.proofs.Lost.{lost-le, distinct_falling, lost_root, lost_other}
 
-sorted_without_all : (ms : List ℕ) (g : Nodes) → Sorted g → Sorted (without_all ms g)
+pub sorted_without_all : (ms : List ℕ) (g : Nodes) → Sorted g → Sorted (without_all ms g)
 sorted_without_all [] g s = s
 sorted_without_all (m ∷ ms) g s = sorted_without_all ms _ (sorted_without m g s)
 
@@ -53,7 +53,7 @@ named-left g root gone q is goes =
     ap (λ n. sum_by (λ m. names q (node g m)) gone + n) (same_named (after_loss g root gone) (without_all gone g) q (same_entries (λ n row. row.links - lost g root gone n) (without_all gone g)))
     ∙ sum-without_all (row_names q) gone g is.in_order (distinct_falling gone goes.greatest_first)
 
-links-less : (count : ℕ) (o : Option NodeRow) → unwrap_or (option_map (λ row. row.links) (less count o)) 0 ≡ unwrap_or (option_map (λ row. row.links) o) 0 - count
+pub links-less : (count : ℕ) (o : Option NodeRow) → unwrap_or (option_map (λ row. row.links) (less count o)) 0 ≡ unwrap_or (option_map (λ row. row.links) o) 0 - count
 links-less count None = omega arith
 links-less count (Some row) =
     elim (is_spent row.links count) as (λ b. is_spent row.links count ≡ b → unwrap_or (option_map (λ (row : NodeRow). row.links) (cond b None (Some (with_links row (row.links - count))))) 0 ≡ row.links - count) [
@@ -68,15 +68,15 @@ links-less count (Some row) =
 pub links-left : (g : Nodes) (root : ℕ) (gone : List ℕ) (q : ℕ) → IsGraph g → IsGone g root gone → links_of (after_loss g root gone) q ≡ links_of g q - lost g root gone q
 links-left g root gone q is goes = ap (λ o. unwrap_or (option_map (λ (row : NodeRow). row.links) o) 0) (node-left g root gone q is goes) ∙ links-less (lost g root gone q) (node g q)
 
-names-less : (count q : ℕ) (o : Option NodeRow) → names q o ≡ 0 → names q (less count o) ≡ 0
+pub names-less : (count q : ℕ) (o : Option NodeRow) → names q o ≡ 0 → names q (less count o) ≡ 0
 names-less count q None e = refl
 names-less count q (Some row) e = elim (is_spent row.links count) as (λ b. names q (cond b None (Some (with_links row (row.links - count)))) ≡ 0) [ true ↦ refl | false ↦ e ]
 
-there-less : (count : ℕ) (o : Option NodeRow) → is_some (less count o) ≡ true → is_some o ≡ true
+pub there-less : (count : ℕ) (o : Option NodeRow) → is_some (less count o) ≡ true → is_some o ≡ true
 there-less count None e = e
 there-less count (Some row) e = refl
 
-rises-less : (count : ℕ) (o : Option NodeRow) → EntriesRise o → EntriesRise (less count o)
+pub rises-less : (count : ℕ) (o : Option NodeRow) → EntriesRise o → EntriesRise (less count o)
 rises-less count None h = h
 rises-less count (Some row) h =
     elim (is_spent row.links count) as (λ b. EntriesRise (cond b None (Some (with_links row (row.links - count))))) [ true ↦ rises_none | false ↦ rises_some (with_links row (row.links - count)) (h row refl) ]

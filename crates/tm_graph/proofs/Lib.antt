@@ -16,3 +16,4 @@ pub mod OneGone
 pub mod Joining
 pub mod Growing
 pub mod Undone
+pub mod Unlinked

@@ -1,6 +1,7 @@
 pub mod Nodes
 pub mod Reads
 pub mod Losing
+pub mod Unlinking
 pub mod Walks
 pub mod Trees
 pub mod Ways

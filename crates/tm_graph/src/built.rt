@@ -93,7 +93,8 @@ pub struct Built {
     pub blobs: NodeBlobs,
 }
 
-/// The nodes that went with a root link, the greatest first. Seen as their list.
+/// Nodes that went with root links, or that lost links with them, the greatest first. Seen as their
+/// list.
 #[derive(Drop)]
 pub struct Gone {
     list: Vec<NodeId>,
@@ -121,4 +122,13 @@ impl Gone {
     {
         self.list.as_slice()
     }
+}
+
+/// What a graph lost with root links.
+#[derive(Drop)]
+pub struct RootLosses {
+    /// The nodes that went.
+    pub gone: Gone,
+    /// The nodes that are left with fewer links.
+    pub thinned: Gone,
 }

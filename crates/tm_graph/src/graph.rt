@@ -4,8 +4,9 @@ ghost use Rattle.std.specs.Option.{option_copied, option_map};
 ghost use Rattle.tm_graph.specs.Nodes.{IsGraph, MayHold, added, greatest, linked, links_of, node, root_links, stored_in};
 ghost use Rattle.tm_graph.specs.Losing.{IsGone, after_loss};
 ghost use Rattle.tm_graph.specs.Growing.{MayGrow, grown};
+ghost use Rattle.tm_graph.specs.Unlinking.{AreLost, HaveRootLinks, after_losses};
 
-use crate::built::{Gone, NodeRows};
+use crate::built::{Gone, NodeRows, RootLosses};
 use crate::gains::{add_folder_to, gain, put};
 use crate::grow::grow;
 use crate::holds::may_hold;
@@ -206,8 +207,25 @@ impl Graph {
         ensures left { IfOk result (λ gone. self.new ≡ after_loss self.old root gone) }
         ensures err { OnErr result (self.new ≡ self.old) }
     {
-        let losses = collect(self.alloc, &self.nodes, root.0)?;
+        let losses = collect(self.alloc, &self.nodes, &[root])?;
         apply(&mut self.nodes, losses.counts);
         Ok(Gone::of(losses.gone))
+    }
+
+    /// Root links fewer of these nodes, one each time that a node is listed. The nodes that then have
+    /// no links go, downwards; they are given, and so are those that are left with fewer links. Its
+    /// cost is in these and their entries. Where memory is refused, the graph stays as it was.
+    pub fn unlink_roots(&mut self, roots: &[NodeId]) -> Result<RootLosses, AllocError>
+        requires { HaveRootLinks self.old roots.now }
+        ensures lost { IfOk result (λ lost. AreLost self.old roots.now lost.gone lost.thinned) }
+        ensures left { IfOk result (λ lost. self.new ≡ after_losses self.old roots.now lost.gone) }
+        ensures err { OnErr result (self.new ≡ self.old) }
+    {
+        let losses = collect(self.alloc, &self.nodes, roots)?;
+        apply(&mut self.nodes, losses.counts);
+        Ok(RootLosses {
+            gone: Gone::of(losses.gone),
+            thinned: Gone::of(losses.thinned),
+        })
     }
 }

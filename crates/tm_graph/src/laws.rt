@@ -3,6 +3,7 @@ ghost use Rattle.tm_graph.specs.Growing.{GrownReads, GrowthIsUndone};
 ghost use Rattle.tm_graph.specs.Reached.{NodesAreReached, LeavesLinked, GoneIsOne};
 ghost use Rattle.tm_graph.specs.Reads.{AddedReads, LinkedReads};
 ghost use Rattle.tm_graph.specs.Trees.{RowsStand};
+ghost use Rattle.tm_graph.specs.Unlinking.{LossesLeaveLinked};
 ghost use Rattle.tm_graph.specs.Ways.{WaysFind};
 
 /// What a graph with one node more has under each number.
@@ -23,6 +24,11 @@ pub fn nodes_are_reached()
 /// `unlink_root` takes one root link, and leaves no node without links.
 pub fn leaves_linked()
     ensures { LeavesLinked }
+{}
+
+/// `unlink_roots` leaves a graph, takes those root links, and leaves no node without links.
+pub fn losses_leave_linked()
+    ensures { LossesLeaveLinked }
 {}
 
 /// The nodes that go are told by the graph and the root.

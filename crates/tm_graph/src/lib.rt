@@ -13,11 +13,11 @@ mod roots;
 mod row;
 mod walk;
 
-pub use built::{Built, Gone, NodeBlobs, NodeRows};
+pub use built::{Built, Gone, NodeBlobs, NodeRows, RootLosses};
 pub use graph::Graph;
 pub use laws::{
     added_reads, gone_is_one, grown_reads, growth_is_undone, leaves_linked, linked_reads,
-    nodes_are_reached, rows_stand, ways_find,
+    losses_leave_linked, nodes_are_reached, rows_stand, ways_find,
 };
 pub use row::children_of;
 pub use walk::{Walk, child_named};

@@ -6,15 +6,19 @@ use Rattle.std.specs.Set.{is_member}
 use Rattle.std.specs.BTreeMap.{get}
 use Rattle.std.specs.List.Sorted.{IsStrictlySortedBy}
 use Rattle.tm_graph.specs.Nodes.{node}
-use Rattle.tm_graph.specs.Losing.{falling, lost, spends}
+use Rattle.tm_graph.specs.Losing.{falling, spends}
+use Rattle.tm_graph.specs.Unlinking.{lost_all, thins}
 use Rattle.tm_graph.proofs.losses.collect.Given as goal
 
 abbrev pub invariant-loop-number : goal.invariant-loop-number
 invariant-loop-number l = record {
-  counts : (q : ℕ) → unwrap_or (get nat_cmp l.counts q) 0 ≡ lost l.nodes.entries l.root l.gone.items q;
+  counts : (q : ℕ) → unwrap_or (get nat_cmp l.counts q) 0 ≡ lost_all l.nodes.entries l.roots l.gone.items q;
   falls : IsStrictlySortedBy falling l.gone.items;
-  spent : (q : ℕ) → l.above ≤ q → is_member nat_eq l.gone.items q ≡ spends (lost l.nodes.entries l.root l.gone.items q) (node l.nodes.entries q);
+  thinned_falls : IsStrictlySortedBy falling l.thinned.items;
+  spent : (q : ℕ) → l.above ≤ q → is_member nat_eq l.gone.items q ≡ spends (lost_all l.nodes.entries l.roots l.gone.items q) (node l.nodes.entries q);
+  thins : (q : ℕ) → l.above ≤ q → is_member nat_eq l.thinned.items q ≡ thins (lost_all l.nodes.entries l.roots l.gone.items q) (node l.nodes.entries q);
   below : (q : ℕ) → q < l.above → is_member nat_eq l.gone.items q ≡ false;
+  thinned_below : (q : ℕ) → q < l.above → is_member nat_eq l.thinned.items q ≡ false;
 }
 
 abbrev pub decreases-loop-number : goal.decreases-loop-number
