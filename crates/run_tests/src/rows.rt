@@ -52,7 +52,7 @@ const OLD_COPY: [&str; 6] = ["--volume", "w", "--store", "s", "--script", "p"];
 const COPYING: [&str; 6] = ["--volume", "w", "--store", "t", "--script", "p"];
 
 /// Each line that is built, over the old copy: its file has a stamp that another file of the newer
-/// store has too.
+/// store has too, so the backup takes it for that one and shares it.
 const EACH_LINE: &str = "\
 at 2009-03-04-090000\n\
 newvolume HD 6ba7b810-9dad-11d1-80b4-00c04fd430c8 1000\n\
@@ -78,6 +78,8 @@ tmutil machinedirectory\n\
 store ls /Backups.backupdb/Mac\n\
 store cat /Backups.backupdb/Mac/2009-03-02-090000/HD/f\n\
 store cat /Backups.backupdb/Mac/2009-03-03-090000/HD/f\n\
+store stat /Backups.backupdb/Mac/2009-03-03-090000/HD/f\n\
+store df\n\
 cat /f\n";
 
 const EACH_LINE_SAYS: &str = "\
@@ -118,6 +120,10 @@ ok\n\
 bytes 3 one\n\
 ok\n\
 bytes 3 two\n\
+ok\n\
+stat file label 2 links 2\n\
+ok\n\
+df blocks 64 free 57 nodes 7 stored 10 snapshots 3\n\
 ok\n\
 bytes 5 three\n\
 ok\n";
